@@ -1,0 +1,5 @@
+pub mod CostLemmas
+pub mod RuleLemmas
+pub mod LabelLemmas
+pub mod ForestLemmas
+mod Examples

@@ -1,0 +1,5 @@
+pub mod Plan
+pub mod Parts
+pub mod Rules
+pub mod Labels
+pub mod Forest

@@ -1,0 +1,16 @@
+//! The problem, its groupings, what they cost, and the parts that links join.
+#![tactic(auto)]
+
+mod costs;
+mod grouping;
+mod part_labels;
+mod problem;
+mod rules;
+
+pub use costs::{cost, cost_law, recolour};
+pub use grouping::{Grouping, numbered};
+pub use part_labels::parts;
+pub use problem::{Link, Problem, ProblemParts};
+
+#[cfg(test)]
+mod tests;
