@@ -1,0 +1,5 @@
+pub mod Classes
+pub mod OneText
+pub mod Parts
+pub mod RowMaps
+pub mod TableTexts
