@@ -1,0 +1,4 @@
+pub mod Runs
+pub mod Choices
+pub mod RowLaws
+pub mod Leasts
