@@ -1,0 +1,48 @@
+-- Texts of lines, one piece after another.
+use Rattle.std.proofs.Common.{◌≡◌, ℕ, ◌+◌, ◌<◌, List, [], ◌∷◌, ◌++◌, map, take, length, get_or, refl, ap, sym, ◌∙◌, append_assoc, append-nil, map-id, zero-add}
+use Rattle.std.specs.List.{range_with_len, flat_map}
+use Rattle.std.specs.Fmt.{decimal}
+use Rattle.std.proofs.lemmas.List.{map-append, take_more}
+use Rattle.std.proofs.lemmas.List.FromFn.{map-range_with_len_more}
+use Rattle.std.proofs.lemmas.Grind.{flat_map-append}
+use Rattle.agg_base.specs.Texts.{ended}
+use Rattle.generalise_core.specs.Certificates.{escape_line, spaced_below}
+
+pub ended-append : (xs ys : List (List ℕ)) → ended (xs ++ ys) ≡ ended xs ++ ended ys
+ended-append [] ys = refl
+ended-append (x ∷ xs) ys = ap (λ rest. x ++ 10 ∷ rest) (ended-append xs ys) ∙ sym (append_assoc x (10 ∷ ended xs) (ended ys))
+
+-- what one more piece makes of a text
+pub and_then : (x y z a b : List ℕ) → y ≡ x ++ a → z ≡ y ++ b → z ≡ x ++ (a ++ b)
+and_then x y z a b e f = f ∙ ap (λ t. t ++ b) e ∙ append_assoc x a b
+
+-- one more line
+pub next_line : (text front new : List ℕ) (lines : List (List ℕ)) (line : List ℕ)
+    → front ≡ text ++ ended lines → new ≡ front ++ ended (line ∷ []) → new ≡ text ++ ended (lines ++ line ∷ [])
+next_line text front new lines line e f = and_then text front new _ _ e f ∙ ap (λ t. text ++ t) (sym (ended-append lines (line ∷ [])))
+
+-- one more word and its number of a list
+pub ended-map-more : {X : Type 0} (f : X → List ℕ) (text front new : List ℕ) (xs : List X) (i : ℕ) (x : X)
+    → i < length xs → x ≡ get_or xs i x → front ≡ text ++ ended (map f (take i xs)) → new ≡ front ++ ended (f x ∷ [])
+    → new ≡ text ++ ended (map f (take (i + 1) xs))
+ended-map-more f text front new xs i x h e before now =
+    next_line text front new (map f (take i xs)) (f x) before now
+    ∙ ap (λ t. text ++ ended t) (sym (ap (map f) (take_more xs i x h ∙ ap (λ y. take i xs ++ y ∷ []) (sym e)) ∙ map-append f (take i xs) (x ∷ [])))
+
+pub spaced_below-more : (n : ℕ) → spaced_below (n + 1) ≡ spaced_below n ++ (32 ∷ decimal n)
+spaced_below-more n =
+    ap (flat_map (λ member. 32 ∷ decimal member)) (sym (map-id (range_with_len 0 (n + 1))) ∙ map-range_with_len_more (λ k. k) 0 n n (zero-add n) ∙ ap (λ t. t ++ n ∷ []) (map-id (range_with_len 0 n)))
+    ∙ flat_map-append (λ member. 32 ∷ decimal member) (range_with_len 0 n) (n ∷ [])
+    ∙ ap (λ t. spaced_below n ++ t) (append-nil (32 ∷ decimal n))
+
+pub ended-escape-more : (areas n : ℕ) (text front new : List ℕ)
+    → front ≡ text ++ ended (map (escape_line areas) (range_with_len 0 n)) → new ≡ front ++ ended (escape_line areas n ∷ [])
+    → new ≡ text ++ ended (map (escape_line areas) (range_with_len 0 (n + 1)))
+ended-escape-more areas n text front new before now =
+    next_line text front new (map (escape_line areas) (range_with_len 0 n)) (escape_line areas n) before now
+    ∙ ap (λ t. text ++ ended t) (sym (map-range_with_len_more (escape_line areas) 0 n n (zero-add n)))
+
+-- four pieces, one after the other
+pub four_pieces : (a b c d : List (List ℕ)) → (ended a ++ ended b) ++ ended c ++ ended d ≡ ended (a ++ b ++ c ++ d)
+four_pieces a b c d =
+    sym (ended-append (a ++ b ++ c) d ∙ ap (λ t. t ++ ended d) (ended-append (a ++ b) c ∙ ap (λ t. t ++ ended c) (ended-append a b)))

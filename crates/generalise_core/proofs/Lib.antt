@@ -1,0 +1,6 @@
+pub mod WordLists
+pub mod Endings
+pub mod Decisions
+pub mod Exclusions
+pub mod Heard
+pub mod Plannings

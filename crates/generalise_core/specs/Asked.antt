@@ -1,0 +1,5 @@
+use Rattle.generalise_core.specs.Words.{Request}
+use Rattle.generalise_core.specs.declared.words.Asked.{Asked}
+
+abbrev pub request : Asked → Request
+request a = record { map = a.map.now; table = a.table.now; out = a.out.now; certificate = a.certificate.now }

@@ -1,0 +1,22 @@
+-- The exit code of each status, and the status of each kind of answer.
+use Rattle.std.specs.Prelude.{ℕ}
+use Rattle.generalise_core.specs.declared.status.Status.{Status}
+use Rattle.generalise_core.specs.declared.status.Status.TheVariants.{Done, Within, Hopeless, Usage, Refused, Memory, ReadFault, WriteFault}
+use Rattle.generalise_core.specs.declared.outcome.Kind.{Kind}
+use Rattle.generalise_core.specs.declared.outcome.Kind.TheVariants as kind
+
+abbrev pub code_of : Status → ℕ
+code_of Done = 0
+code_of Within = 3
+code_of Hopeless = 4
+code_of Usage = 64
+code_of Refused = 65
+code_of Memory = 70
+code_of ReadFault = 74
+code_of WriteFault = 75
+
+-- the status of a run that put all out
+abbrev pub status_of : Kind → Status
+status_of kind.Done = Done
+status_of kind.Within = Within
+status_of kind.Hopeless = Hopeless

@@ -1,0 +1,9 @@
+pub mod Words
+pub mod Asked
+pub mod Certificates
+pub mod Answers
+pub mod Stops
+pub mod Codes
+pub mod Puts
+pub mod Runs
+pub mod Plans

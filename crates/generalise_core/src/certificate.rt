@@ -1,0 +1,110 @@
+// The text of a certificate and of the report.
+ghost use Rattle.std.specs.Prelude.{◌≡◌, ◌++◌, ◌∷◌, ◌≤◌, [], map, length, OnOk, IfOk};
+ghost use Rattle.std.specs.List.{range_with_len};
+ghost use Rattle.agg_base.specs.Texts.{ended};
+ghost use Rattle.generalise_core.specs.Certificates.{certificate, report, head_lines, group_lines, leaf_lines, escape_line, kind_word};
+
+use crate::text::{
+    push_classes, push_count, push_escape, push_line, push_number_or_dash, push_regions,
+};
+use crate::{Kind, Leaf, Outcome};
+use agg_base::NoMemory;
+use agg_model::Grouping;
+use std::alloc::Global;
+
+fn word_of(kind: Kind) -> &'static [u8]
+    ensures { result.now ≡ kind_word kind }
+{
+    match kind {
+        Kind::Done => b"optimal",
+        Kind::Within => b"within",
+        Kind::Hopeless => b"none",
+    }
+}
+
+// The six lines at the head.
+fn push_head(out: &mut Vec<u8>, outcome: &Outcome, regions: u32) -> Result<(), NoMemory>
+    requires { regions ≡ length outcome.now.grouping.class_of }
+    ensures { OnOk result (out.new.items ≡ out.old.items ++ ended (head_lines outcome.now)) }
+{
+    push_line(out, b"aggregation 1")?;
+    out.extend_from_slice(b"status ")?;
+    push_line(out, word_of(outcome.kind))?;
+    push_number_or_dash(out, b"cost ", outcome.cost)?;
+    push_number_or_dash(out, b"bound ", outcome.bound)?;
+    push_count(out, b"areas ", outcome.areas)?;
+    push_count(out, b"regions ", regions)?;
+    Ok(())
+}
+
+// The classes of the regions, and the regions of the areas.
+fn push_groups(out: &mut Vec<u8>, grouping: &Grouping) -> Result<(), NoMemory>
+    ensures { OnOk result (out.new.items ≡ out.old.items ++ ended (group_lines grouping.now)) }
+{
+    push_classes(out, &grouping.class_of)?;
+    push_regions(out, &grouping.region_of)?;
+    Ok(())
+}
+
+// An escape row for each class.
+fn push_escapes(out: &mut Vec<u8>, areas: u32, classes: u8) -> Result<(), NoMemory>
+    ensures { OnOk result (out.new.items ≡ out.old.items ++ ended (map (escape_line areas) (range_with_len 0 classes))) }
+{
+    for class in 0..classes {
+        push_escape(out, areas, class)?;
+    }
+    Ok(())
+}
+
+fn push_leaf(out: &mut Vec<u8>, areas: u32, leaf: Leaf) -> Result<(), NoMemory>
+    ensures { OnOk result (out.new.items ≡ out.old.items ++ ended (leaf_lines areas leaf)) }
+{
+    match leaf {
+        Leaf::Fixed => push_line(out, b"f"),
+        Leaf::Plain => push_line(out, b"c 1 0"),
+        Leaf::Void { classes } => {
+            push_count(out, b"v ", u32::from(classes))?;
+            push_escapes(out, areas, classes)?;
+            Ok(())
+        }
+    }
+}
+
+// How many regions a grouping has.
+fn region_count(grouping: &Grouping) -> u32
+    requires { length grouping.now.class_of ≤ 65536 }
+    ensures { result ≡ length grouping.now.class_of }
+{
+    grouping.class_of.len() as u32
+}
+
+/// The certificate's one text.
+pub fn certificate(alloc: Global, outcome: &Outcome) -> Result<Vec<u8>, NoMemory>
+    requires { length outcome.now.grouping.class_of ≤ 65536 }
+    ensures { IfOk result (λ text. text.items ≡ certificate outcome.now) }
+{
+    let mut out = Vec::new(alloc);
+    let regions = region_count(&outcome.grouping);
+    push_head(&mut out, outcome, regions)?;
+    push_groups(&mut out, &outcome.grouping)?;
+    push_leaf(&mut out, outcome.areas, outcome.leaf)?;
+    push_line(&mut out, b"end")?;
+    Ok(out)
+}
+
+/// The report that is said.
+pub fn report(alloc: Global, outcome: &Outcome) -> Result<Vec<u8>, NoMemory>
+    requires { length outcome.now.grouping.class_of ≤ 65536 }
+    ensures { IfOk result (λ text. text.items ≡ report outcome.now) }
+{
+    let regions = region_count(&outcome.grouping);
+    let mut out = Vec::new(alloc);
+    push_line(&mut out, word_of(outcome.kind))?;
+    push_count(&mut out, b"areas ", outcome.areas)?;
+    push_line(&mut out, b"passed 0")?;
+    push_count(&mut out, b"regions ", regions)?;
+    push_number_or_dash(&mut out, b"cost ", outcome.cost)?;
+    push_number_or_dash(&mut out, b"bound ", outcome.bound)?;
+    push_line(&mut out, b"splits 0")?;
+    Ok(out)
+}

@@ -1,0 +1,101 @@
+// Texts that are made of lines, one piece after another.
+ghost use Rattle.std.specs.Prelude.{◌≡◌, ◌++◌, ◌∷◌, [], map, pos, OnOk};
+ghost use Rattle.std.specs.Fmt.{decimal, signed_decimal};
+ghost use Rattle.agg_base.specs.Texts.{ended};
+ghost use Rattle.generalise_core.specs.Certificates.{number_or_dash, region_line, area_line, escape_line, spaced_below};
+
+use agg_base::{NoMemory, print_signed};
+
+/// Appends a line and its line feed.
+pub(crate) fn push_line(out: &mut Vec<u8>, line: &[u8]) -> Result<(), NoMemory>
+    ensures { OnOk result (out.new.items ≡ out.old.items ++ ended (line.now ∷ [])) }
+{
+    out.extend_from_slice(line)?;
+    out.push(b'\n')?;
+    Ok(())
+}
+
+/// Appends a line of a word, with its blank, and a number.
+pub(crate) fn push_number(out: &mut Vec<u8>, word: &[u8], number: i128) -> Result<(), NoMemory>
+    ensures { OnOk result (out.new.items ≡ out.old.items ++ ended ((word.now ++ signed_decimal number) ∷ [])) }
+{
+    out.extend_from_slice(word)?;
+    print_signed(out, number)?;
+    out.push(b'\n')?;
+    Ok(())
+}
+
+/// Appends a line of a word, with its blank, and a count.
+pub(crate) fn push_count(out: &mut Vec<u8>, word: &[u8], count: u32) -> Result<(), NoMemory>
+    ensures { OnOk result (out.new.items ≡ out.old.items ++ ended ((word.now ++ decimal count) ∷ [])) }
+{
+    push_number(out, word, i128::from(count))
+}
+
+/// Appends a line of a word, with its blank, and a number, or a dash where there is none.
+pub(crate) fn push_number_or_dash(
+    out: &mut Vec<u8>,
+    word: &[u8],
+    number: Option<i128>,
+) -> Result<(), NoMemory>
+    ensures { OnOk result (out.new.items ≡ out.old.items ++ ended ((word.now ++ number_or_dash number) ∷ [])) }
+{
+    match number {
+        Some(number) => push_number(out, word, number),
+        None => {
+            out.extend_from_slice(word)?;
+            push_line(out, b"-")
+        }
+    }
+}
+
+/// Appends a line for each region, with its class.
+pub(crate) fn push_classes(out: &mut Vec<u8>, classes: &[u8]) -> Result<(), NoMemory>
+    ensures { OnOk result (out.new.items ≡ out.old.items ++ ended (map region_line classes.now)) }
+{
+    for class in classes {
+        push_count(out, b"r ", u32::from(*class))?;
+    }
+    Ok(())
+}
+
+/// Appends a line for each area, with its region.
+pub(crate) fn push_regions(out: &mut Vec<u8>, regions: &[u32]) -> Result<(), NoMemory>
+    ensures { OnOk result (out.new.items ≡ out.old.items ++ ended (map area_line regions.now)) }
+{
+    for region in regions {
+        push_count(out, b"a ", *region)?;
+    }
+    Ok(())
+}
+
+// Appends the digits of a count.
+fn push_digits(out: &mut Vec<u8>, count: u32) -> Result<(), NoMemory>
+    ensures { OnOk result (out.new.items ≡ out.old.items ++ decimal count) }
+{
+    print_signed(out, i128::from(count))
+}
+
+// Appends the numbers below a bound, each after a space.
+fn push_numbers(out: &mut Vec<u8>, count: u32) -> Result<(), NoMemory>
+    ensures { OnOk result (out.new.items ≡ out.old.items ++ spaced_below count) }
+{
+    for number in 0..count {
+        out.push(b' ')?;
+        push_digits(out, number)?;
+    }
+    Ok(())
+}
+
+/// Appends the escape row of a class, with all areas as its set.
+pub(crate) fn push_escape(out: &mut Vec<u8>, areas: u32, class: u8) -> Result<(), NoMemory>
+    ensures { OnOk result (out.new.items ≡ out.old.items ++ ended (escape_line areas class ∷ [])) }
+{
+    out.extend_from_slice(b"e 1 0 ")?;
+    push_digits(out, u32::from(class))?;
+    out.push(b' ')?;
+    push_digits(out, areas)?;
+    push_numbers(out, areas)?;
+    out.push(b'\n')?;
+    Ok(())
+}

@@ -1,0 +1,122 @@
+// The top call.
+ghost use Rattle.std.specs.Prelude.{◌≡◌, ◌≢◌, ◌⊎◌, ◌≤◌, [], ◌∷◌, ℕ, List, Option, IfOk, OnOk, OnErr, IfErr, IsErrOf, take};
+ghost use Rattle.shelf_io.specs.Files.{stored, spoken, IsPartlyStored, IsPartlySpoken};
+ghost use Rattle.shelf_io.specs.Causes.{Rose};
+ghost use Rattle.agg_model.specs.Plan.{Groups, IsFeasible, Plan as Setting};
+ghost use Rattle.generalise_core.specs.Words.{Request, Spells};
+ghost use Rattle.generalise_core.specs.Asked.{request};
+ghost use Rattle.generalise_core.specs.declared.outcome.Kind.{Kind};
+ghost use Rattle.generalise_core.specs.Certificates.{Stated};
+ghost use Rattle.generalise_core.specs.Codes.{status_of};
+ghost use Rattle.generalise_core.specs.Stops.{line_of, status_of_stop, usage_line};
+ghost use Rattle.generalise_core.specs.Puts.{all_stored, IsPartlyPut};
+ghost use Rattle.generalise_core.specs.Runs.{MayEndAs, MayFailAs, Answers, IsKept, IsRefusal, IsReadFault, IsPartlyKept, IsHeard, IsProblemOf, AreRefused};
+
+use crate::{Asked, Halt, Plan, Status, Stop, decide, read_words};
+use agg_base::Words;
+use shelf_io::{Put, Shelf};
+use std::alloc::Global;
+
+// Says why nothing is stored, and ends as that says unless saying fails.
+fn tell<S: Shelf>(shelf: &mut S, stop: &Stop) -> Status
+    ensures status { MayEndAs (status_of_stop stop.now) result }
+    ensures heard { result ≡ status_of_stop stop.now → S.said shelf.new ≡ spoken (S.said shelf.old) (line_of stop.now) }
+    ensures partly { IsPartlySpoken (S.said shelf.old) (S.said shelf.new) (line_of stop.now) }
+    ensures files { S.files shelf.new ≡ S.files shelf.old }
+    ensures fetches { S.fetch_faults shelf.new ≡ S.fetch_faults shelf.old }
+    ensures missed { S.missed shelf.new ≡ S.missed shelf.old }
+    ensures cause { result ≡ Status.WriteFault → Rose (S.put_faults shelf.old) (S.put_faults shelf.new) }
+{
+    match shelf.say(stop.line().as_bytes()) {
+        Ok(()) => stop.status(),
+        Err(Put::Failed) => Status::WriteFault,
+        Err(Put::Memory) => Status::Memory,
+    }
+}
+
+// Makes one file hold a text, and ends the run where that fails.
+fn put_out<S: Shelf>(shelf: &mut S, name: &str, text: &[u8]) -> Result<(), Status>
+    ensures stored { OnOk result (S.files shelf.new ≡ stored (S.files shelf.old) name.now text.now) }
+    ensures partly { OnErr result (IsPartlyStored (S.files shelf.old) (S.files shelf.new) name.now text.now) }
+    ensures said { S.said shelf.new ≡ S.said shelf.old }
+    ensures fetches { S.fetch_faults shelf.new ≡ S.fetch_faults shelf.old }
+    ensures missed { S.missed shelf.new ≡ S.missed shelf.old }
+    ensures later { S.put_faults shelf.old ≤ S.put_faults shelf.new }
+    ensures error { IfErr result (λ status. (status ≡ Status.WriteFault) ⊎ (status ≡ Status.Memory)) }
+    ensures cause { IsErrOf result Status.WriteFault → Rose (S.put_faults shelf.old) (S.put_faults shelf.new) }
+{
+    match shelf.store(name, text) {
+        Ok(()) => Ok(()),
+        Err(Put::Failed) => Err(Status::WriteFault),
+        Err(Put::Memory) => Err(Status::Memory),
+    }
+}
+
+// Says the report, and ends with the plan's status unless that fails.
+fn say_report<S: Shelf>(shelf: &mut S, plan: &Plan) -> Status
+    ensures status { MayEndAs (status_of plan.now.kind) result }
+    ensures heard { result ≡ status_of plan.now.kind → S.said shelf.new ≡ spoken (S.said shelf.old) plan.now.report.items }
+    ensures partly { IsPartlySpoken (S.said shelf.old) (S.said shelf.new) plan.now.report.items }
+    ensures files { S.files shelf.new ≡ S.files shelf.old }
+    ensures fetches { S.fetch_faults shelf.new ≡ S.fetch_faults shelf.old }
+    ensures missed { S.missed shelf.new ≡ S.missed shelf.old }
+    ensures later { S.put_faults shelf.old ≤ S.put_faults shelf.new }
+    ensures cause { result ≡ Status.WriteFault → Rose (S.put_faults shelf.old) (S.put_faults shelf.new) }
+{
+    match shelf.say(&plan.report) {
+        Ok(()) => Status::of(plan.kind),
+        Err(Put::Failed) => Status::WriteFault,
+        Err(Put::Memory) => Status::Memory,
+    }
+}
+
+// Stores what is due, and then says the report.
+fn carry_out<S: Shelf>(shelf: &mut S, asked: &Asked, plan: &Plan) -> Status
+    ensures status { MayEndAs (status_of plan.now.kind) result }
+    ensures stored { result ≡ status_of plan.now.kind → S.files shelf.new ≡ all_stored (S.files shelf.old) ((asked.now.certificate.now, plan.now.certificate.items) ∷ []) }
+    ensures heard { result ≡ status_of plan.now.kind → S.said shelf.new ≡ spoken (S.said shelf.old) plan.now.report.items }
+    ensures partly_heard { (S.said shelf.new ≡ S.said shelf.old) ⊎ IsPartlySpoken (S.said shelf.old) (S.said shelf.new) plan.now.report.items }
+    ensures partly { IsPartlyPut (S.files shelf.old) (S.files shelf.new) ((asked.now.certificate.now, plan.now.certificate.items) ∷ []) }
+    ensures fetches { S.fetch_faults shelf.new ≡ S.fetch_faults shelf.old }
+    ensures missed { S.missed shelf.new ≡ S.missed shelf.old }
+    ensures cause { result ≡ Status.WriteFault → Rose (S.put_faults shelf.old) (S.put_faults shelf.new) }
+{
+    if let Err(status) = put_out(shelf, asked.certificate, &plan.certificate) {
+        return status;
+    }
+    say_report(shelf, plan)
+}
+
+/// Reads the words and the files, and stores and says the answer.
+pub fn run<S: Shelf>(alloc: Global, words: &Words, shelf: &mut S) -> Status
+    // The words are in no form, exactly.
+    ensures usage { result ≡ Status.Usage → ((r : Request) → ¬ Spells words.now r) × (S.said shelf.new ≡ spoken (S.said shelf.old) usage_line) }
+    ensures unspelled { ((r : Request) → ¬ Spells words.now r) → MayEndAs Status.Usage result }
+
+    // The first step that refuses, exactly, with its line.
+    ensures refused { result ≡ Status.Refused → IsRefusal (S.files shelf.old) (S.said shelf.old) (S.said shelf.new) words.now }
+    ensures refusing { (line : List ℕ) → AreRefused (S.files shelf.old) words.now line → MayFailAs Status.Refused result }
+
+    // A fetch, a store or a say failed.
+    ensures read_fault { result ≡ Status.ReadFault → IsReadFault (S.files shelf.old) (S.said shelf.old) (S.said shelf.new) words.now (S.fetch_faults shelf.old) (S.fetch_faults shelf.new) (S.missed shelf.new) }
+    ensures write_fault { result ≡ Status.WriteFault → Rose (S.put_faults shelf.old) (S.put_faults shelf.new) }
+
+    // The certificate states a feasible grouping, its cost and a bound of every feasible grouping's cost, or that none is feasible.
+    ensures kept { (kind : Kind) → result ≡ status_of kind → IsKept (S.files shelf.old) (S.files shelf.new) (S.said shelf.old) (S.said shelf.new) words.now kind }
+    ensures answering { (p : Setting) → IsProblemOf (S.files shelf.old) words.now p → (kind : Kind) × MayFailAs (status_of kind) result }
+    ensures hopeless { (p : Setting) → IsProblemOf (S.files shelf.old) words.now p → ((g : Groups) → ¬ IsFeasible p g) → MayFailAs Status.Hopeless result }
+
+    // Nothing else changes.
+    ensures unchanged { (result ≡ Status.Usage) ⊎ (result ≡ Status.Refused) ⊎ (result ≡ Status.ReadFault) → S.files shelf.new ≡ S.files shelf.old }
+    ensures partly { IsPartlyKept (S.files shelf.old) (S.files shelf.new) words.now }
+    ensures heard { IsHeard (S.files shelf.old) (S.said shelf.old) (S.said shelf.new) words.now }
+{
+    let Some(asked) = read_words(words) else {
+        return tell(shelf, &Stop::Usage);
+    };
+    match decide(alloc, shelf, &asked) {
+        Ok(plan) => carry_out(shelf, &asked, &plan),
+        Err(Halt::Stopped(stop)) => tell(shelf, &stop),
+        Err(Halt::Memory) => Status::Memory,
+    }
+}
