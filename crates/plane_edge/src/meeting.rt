@@ -1,0 +1,141 @@
+//! Where two edges meet.
+ghost use Rattle.std.specs.Prelude.{◌≡◌, ◌≢◌, ◌≤◌, ◌^◌, ◌*ℤ◌, ◌<ℤ◌, pos, unsigned_abs, IfSome, IfNone, ◌&&◌, not};
+ghost use Rattle.plane_edge.specs.Line.{IsMeetSpot};
+ghost use Rattle.plane_edge.specs.Plane.{turn, offset, along, is_part, is_end_part, parts_meet, Same, IsBounded, IsCommon, IsLowest, IsMeeting};
+
+use crate::edge::Edge;
+use crate::level::meet_level;
+use crate::spot::Spot;
+use crate::wide::{gap, minor, placed, sign_of, times_sign};
+use whole_ring::{divided, gcd};
+
+/// 0 exactly where the edges are parallel.
+fn turn_of(e: &Edge, f: &Edge) -> i128
+    ensures value { result ≡ turn e.now f.now }
+    ensures within { unsigned_abs result ≤ 2 ^ 63 }
+{
+    let run = gap(e.high.x, e.low.x);
+    let rise = gap(e.high.y, e.low.y);
+    let other_run = gap(f.high.x, f.low.x);
+    let other_rise = gap(f.high.y, f.low.y);
+    minor(run, other_rise, rise, other_run)
+}
+
+/// How far the low ends of `e` and `f` are apart, across the direction of `g`.
+fn offset_of(e: &Edge, f: &Edge, g: &Edge) -> i128
+    ensures value { result ≡ offset e.now f.now g.now }
+    ensures within { unsigned_abs result ≤ 2 ^ 63 }
+{
+    let right = gap(f.low.x, e.low.x);
+    let up = gap(f.low.y, e.low.y);
+    let run = gap(g.high.x, g.low.x);
+    let rise = gap(g.high.y, g.low.y);
+    minor(right, rise, up, run)
+}
+
+/// The spot at the part `n` of `m` of the edge.
+pub fn spot_along(e: &Edge, n: i128, m: i128) -> Spot
+    requires m_within { unsigned_abs m ≤ 2 ^ 63 }
+    requires n_within { unsigned_abs n ≤ 2 ^ 63 }
+    ensures { result ≡ along e.now n m }
+{
+    let run = gap(e.high.x, e.low.x);
+    let rise = gap(e.high.y, e.low.y);
+    let x = placed(e.low.x, m, n, run);
+    let y = placed(e.low.y, m, n, rise);
+    Spot { x, y, m }
+}
+
+/// Whether both parts are from 0 to `m`, and not both an end.
+fn do_parts_meet(n: i128, k: i128, m: i128) -> bool
+    ensures { result ≡ parts_meet n k m }
+{
+    let n_in = is_in(n, m);
+    let k_in = is_in(k, m);
+    let n_at_end = is_at_end(n, m);
+    let k_at_end = is_at_end(k, m);
+    are_met(n_in, k_in, n_at_end, k_at_end)
+}
+
+/// Whether `n` is from 0 to `m`.
+fn is_in(n: i128, m: i128) -> bool
+    ensures { result ≡ is_part n m }
+{
+    0 <= n && n <= m
+}
+
+/// Whether `n` is 0 or `m`.
+fn is_at_end(n: i128, m: i128) -> bool
+    ensures { result ≡ is_end_part n m }
+{
+    n == 0 || n == m
+}
+
+fn are_met(n_in: bool, k_in: bool, n_at_end: bool, k_at_end: bool) -> bool
+    ensures { result ≡ (n_in && k_in) && not (n_at_end && k_at_end) }
+{
+    n_in && k_in && !(n_at_end && k_at_end)
+}
+
+/// The greatest number that divides all three.
+fn greatest_common(x: i128, y: i128, m: i128) -> u128
+    requires real { pos 0 <ℤ m }
+    ensures { IsCommon x y m result }
+{
+    let across = gcd(x.unsigned_abs(), y.unsigned_abs());
+    gcd(across, m.unsigned_abs())
+}
+
+/// The same point in lowest terms: no whole number above 1 divides all three numbers.
+pub fn lowest(spot: &Spot) -> Spot
+    requires real { pos 0 <ℤ spot.now.m }
+    requires fine { unsigned_abs spot.now.m ≤ 2 ^ 63 }
+    ensures same { Same spot.now result }
+    ensures real { pos 0 <ℤ result.m }
+    ensures fine { unsigned_abs result.m ≤ 2 ^ 63 }
+    ensures is_lowest { IsLowest result }
+{
+    let common = greatest_common(spot.x, spot.y, spot.m);
+    let x = divided(spot.x, common);
+    let y = divided(spot.y, common);
+    let m = divided(spot.m, common);
+    Spot { x, y, m }
+}
+
+/// The meeting of two edges that are not parallel.
+fn meet_across(e: &Edge, f: &Edge, det: i128) -> Option<Spot>
+    requires is_turn { det ≡ turn e.now f.now }
+    requires across { det ≢ pos 0 }
+    requires within { unsigned_abs det ≤ 2 ^ 63 }
+    ensures found { IfSome result (λ s. IsMeetSpot e.now f.now s) }
+    ensures bounded { IfSome result (λ s. IsBounded s) }
+    ensures nowhere { IfNone result ((s : Spot) → ¬ IsMeeting e.now f.now s) }
+{
+    let sign = sign_of(det);
+    let m = times_sign(sign, det);
+    let n = times_sign(sign, offset_of(e, f, f));
+    let k = times_sign(sign, offset_of(e, f, e));
+    if do_parts_meet(n, k, m) {
+        Some(lowest(&spot_along(e, n, m)))
+    } else {
+        None
+    }
+}
+
+/// The spot where two different edges meet, in lowest terms; `None` exactly where no rational point
+/// lies on both without being an end of both. Edges on different lines meet at their one common
+/// point. Edges on one line meet at the greater low end unless that is an end of both, else at the
+/// lesser high end.
+pub fn meet(e: &Edge, f: &Edge) -> Option<Spot>
+    requires { e.now ≢ f.now }
+    ensures found { IfSome result (λ s. IsMeetSpot e.now f.now s) }
+    ensures bounded { IfSome result (λ s. IsBounded s) }
+    ensures nowhere { IfNone result ((s : Spot) → ¬ IsMeeting e.now f.now s) }
+{
+    let det = turn_of(e, f);
+    if det == 0 {
+        meet_level(e, f)
+    } else {
+        meet_across(e, f, det)
+    }
+}

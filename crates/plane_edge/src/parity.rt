@@ -1,0 +1,46 @@
+//! The edges that occur an odd number of times.
+ghost use Rattle.std.specs.Prelude.{◌≡◌, ◌≤◌, length, IfOk, OnOk};
+ghost use Rattle.plane_edge.specs.Edges.{AreOddOf};
+ghost use Rattle.plane_edge.specs.Sweep.{is_last, toggled};
+
+use crate::area::Area;
+use crate::edge::Edge;
+use agg_base::NoMemory;
+use std::alloc::Global;
+
+/// The edges that occur an odd number of times among the steps of the area, each once, in rising
+/// order.
+pub fn odd(alloc: Global, area: &Area) -> Result<Vec<Edge>, NoMemory>
+    ensures odd { IfOk result (λ edges. AreOddOf area.now.steps edges.items) }
+    ensures short { IfOk result (λ edges. length edges.items ≤ length area.now.steps) }
+{
+    let mut sorted = Vec::from_slice(alloc, area.steps())?;
+    sorted.sort_unstable();
+    let mut edges = Vec::new(alloc);
+    for edge in &sorted {
+        toggle(&mut edges, *edge)?;
+    }
+    Ok(edges)
+}
+
+/// Takes the edge away where it is the last one, else appends it.
+fn toggle(edges: &mut Vec<Edge>, edge: Edge) -> Result<(), NoMemory>
+    ensures { OnOk result (edges.new.items ≡ toggled edges.old.items edge) }
+{
+    if ends_with(edges, &edge) {
+        edges.truncate(edges.len() - 1);
+    } else {
+        edges.push(edge)?;
+    }
+    Ok(())
+}
+
+/// Whether the edge is the last one.
+fn ends_with(edges: &[Edge], edge: &Edge) -> bool
+    ensures { result ≡ is_last edges.now edge.now }
+{
+    match edges.last() {
+        Some(last) => last == edge,
+        None => false,
+    }
+}
