@@ -1,0 +1,4 @@
+pub mod StripLemmas
+pub mod MidLemmas
+pub mod CoverLemmas
+pub mod LeastLemmas
