@@ -1,0 +1,15 @@
+pub mod WalkLemmas
+pub mod Counts
+pub mod StripCover
+pub mod ActiveLemmas
+pub mod AcrossStrip
+pub mod HeightLemmas
+pub mod OverlapLemmas
+pub mod KeptLemmas
+pub mod UseLemmas
+pub mod BorderLemmas
+pub mod LaidLemmas
+pub mod FinalLemmas
+pub mod PartnerLemmas
+pub mod SharedLemmas
+pub mod CheckLemmas

@@ -1,0 +1,16 @@
+pub mod Crossing
+pub mod Sharing
+pub mod Uses
+pub mod Cover
+pub mod Areas
+pub mod Walk
+pub mod Strips
+pub mod Active
+pub mod Heights
+pub mod Kept
+pub mod Bordering
+pub mod Partners
+pub mod Fault
+pub mod Parts
+pub mod Checked
+pub mod KeptLaws

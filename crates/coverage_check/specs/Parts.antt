@@ -1,0 +1,11 @@
+-- The odd edges of an area that counts.
+use Rattle.std.specs.Prelude.{IsTrue}
+use Rattle.plane_edge.specs.Edges.{IsRisingEdges, HaveEvenEnds}
+use Rattle.plane_edge.specs.Rings.{Outline}
+use Rattle.coverage_check.specs.Kept.{has_edge}
+
+-- the odd edges of each area that is kept: at least one, in rising order, and each point ends an even number of them
+pub record IsOddPart (a : Outline) : Type 0 where
+  pub some : IsTrue (has_edge a)
+  pub rising : IsRisingEdges a.steps
+  pub even : HaveEvenEnds a.steps

@@ -1,0 +1,99 @@
+//! Checked maps.
+use crate::kept::OddArea;
+use plane_edge::Frame;
+use std::marker::Model;
+
+/// A map whose areas are planar and disjoint, by their odd edges: each area has one at least, and they
+/// are in rising order. There are at most 65,536 areas with at most 2,097,152 odd edges together.
+#[derive(Drop)]
+pub struct Checked {
+    areas: Vec<OddArea>,
+    passed: u32,
+    frame: Frame,
+}
+
+impl Model for Checked {
+    ghost use Rattle.coverage_check.specs.Checked.{CheckedMap, IsChecked};
+
+    ghost Value = { CheckedMap };
+
+    ghost view = { λ c. record { areas = c.areas.items; passed = c.passed; frame = c.frame } };
+
+    ghost invariant = { λ c. IsChecked c.areas.items };
+}
+
+ghost use Rattle.std.specs.Prelude.{◌≡◌, ◌≤◌, ◌<◌, ◌+◌, ℕ, List, [], length, get_or};
+ghost use Rattle.plane_edge.specs.declared.edge.Edge.{Edge as Line};
+ghost use Rattle.coverage_check.specs.Checked.{IsChecked};
+ghost use Rattle.coverage_check.specs.Cover.{odd_of};
+ghost use Rattle.coverage_check.specs.Kept.{kept_of, odds_of, classes_of};
+
+use agg_base::Text;
+use plane_edge::{Coverage, Edge};
+
+impl Checked {
+    /// How many areas there are.
+    pub fn areas(&self) -> usize
+        ensures { result ≡ length self.now.areas }
+    {
+        self.areas.len()
+    }
+
+    /// The odd edges of an area, in rising order.
+    pub fn odd(&self, area: u32) -> &[Edge]
+        requires { area < length self.now.areas }
+        ensures { result.now ≡ odd_of (odds_of self.now.areas) area }
+    {
+        self.areas[area as usize].odd()
+    }
+
+    /// The class text of an area.
+    pub fn class(&self, area: u32) -> &Text
+        requires { area < length self.now.areas }
+        ensures { result.now ≡ get_or (classes_of self.now.areas) area [] }
+    {
+        self.areas[area as usize].class()
+    }
+
+    /// How many areas were passed over.
+    pub fn passed(&self) -> u32
+        ensures { result ≡ self.now.passed }
+    {
+        self.passed
+    }
+
+    /// How the coordinates are written.
+    pub fn frame(&self) -> &Frame
+        ensures { result.now ≡ self.now.frame }
+    {
+        &self.frame
+    }
+
+    /// That the map is planar and disjoint, and within its limits.
+    pub fn rules(&self)
+        ensures { IsChecked self.now.areas }
+    {
+        let _ = &self.areas;
+    }
+}
+
+/// The checked map of the areas of a coverage that count.
+pub fn assemble(areas: Vec<OddArea>, coverage: Coverage) -> Checked
+    requires kept { areas.items ≡ kept_of coverage.areas.items }
+    requires rules { IsChecked areas.items }
+    ensures areas { result.areas ≡ areas.items }
+    ensures passed { result.passed + length areas.items ≡ coverage.passed + length coverage.areas.items }
+    ensures frame { result.frame ≡ coverage.frame }
+{
+    let Coverage {
+        areas: all,
+        passed,
+        frame,
+    } = coverage;
+    let left_out = (all.len() - areas.len()) as u32;
+    Checked {
+        areas,
+        passed: passed + left_out,
+        frame,
+    }
+}

@@ -1,0 +1,26 @@
+//! Whether a coverage is planar and disjoint, over all rational points.
+#![tactic(auto)]
+
+mod border;
+mod bordering;
+mod checked;
+mod cover;
+mod crossing;
+mod distinct;
+mod fault;
+mod heights;
+mod kept;
+mod laws;
+mod overlap;
+mod shared;
+mod strip;
+mod usage;
+mod walk;
+
+pub use checked::Checked;
+pub use cover::check;
+pub use fault::CoverFault;
+pub use laws::odd_law;
+
+#[cfg(test)]
+mod tests;
