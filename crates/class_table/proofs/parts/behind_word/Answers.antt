@@ -1,0 +1,9 @@
+use Rattle.std.proofs.Common.{◌∙◌, ap, drop}
+use Rattle.std.specs.List.{position_or_len}
+use Rattle.class_table.specs.Words.{is_blank, behind}
+use Rattle.class_table.proofs.WordLemmas.{rest_at}
+use Rattle.class_table.proofs.parts.behind_word.Goals as goal
+
+pub returns : goal.returns
+unfolding behind
+returns c = rest_at c.without_blanks_before-led.result.now c.word_end.result _ c.word_end.ensures.place ∙ ap (λ text. drop (position_or_len is_blank text) text) c.without_blanks_before-led.ensures

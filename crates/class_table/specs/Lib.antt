@@ -1,0 +1,10 @@
+pub mod Classes
+pub mod Faults
+pub mod Gives
+pub mod Names
+pub mod Numbers
+pub mod Parts
+pub mod Reading
+pub mod Steps
+pub mod TableTexts
+pub mod Words
