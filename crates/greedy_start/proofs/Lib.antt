@@ -1,0 +1,6 @@
+pub mod PartLemmas
+pub mod HopelessLemmas
+pub mod RegionLemmas
+pub mod TallySteps
+pub mod StartSteps
+pub mod BestSteps

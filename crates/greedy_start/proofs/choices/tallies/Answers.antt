@@ -1,0 +1,31 @@
+use Rattle.std.proofs.Common.{◌≡◌, ℕ, ◌<◌, length, arith, sym, subst, slice_index}
+use Rattle.std.specs.Prelude.{false, pos}
+use Rattle.std.proofs.lemmas.List.{get_or_read}
+use Rattle.greedy_start.specs.declared.choices.Tally.{Tally}
+use Rattle.greedy_start.specs.Tallies.{IsLight, tally_at}
+use Rattle.greedy_start.proofs.TallySteps.{IsCounted, tally_light, tallies_more}
+use Rattle.greedy_start.proofs.choices.tallies.Goals as goal
+
+pub counted-requires-clause-light : goal.counted-requires-clause-light
+counted-requires-clause-light c =
+    let p = c.args.problem.now in
+    let parts = c.args.parts.now in
+    let part : ℕ = slice_index parts c.loop-area.area in
+    let within : part < length parts = c.requires.parts c.loop-area.area (omega arith) in
+    let read : c.index.result.now ≡ tally_at c.loop-area.tallies.items part =
+    get_or_read c.loop-area.tallies.items _ _ (omega (arith, c.loop-area.invariant.one_each)) c.index.ensures (record { owned = false; weight = pos 0; recolouring = pos 0 }) in
+    subst (λ (t : Tally). IsLight p c.loop-area.area t) (sym read)
+    (tally_light p (λ v. slice_index parts v) c.args.class part c.loop-area.area _ c.rules.ensures c.requires.class (omega arith) (c.loop-area.invariant.at part within))
+
+pub loop-area-preserved : goal.loop-area-preserved
+loop-area-preserved c =
+    let p = c.args.problem.now in
+    let parts = c.args.parts.now in
+    let part : ℕ = slice_index parts c.loop-area.area in
+    let within : part < length parts = c.requires.parts c.loop-area.area (omega arith) in
+    let read : c.index.result.now ≡ tally_at c.loop-area.tallies.items part =
+    get_or_read c.loop-area.tallies.items _ _ (omega (arith, c.loop-area.invariant.one_each)) c.index.ensures (record { owned = false; weight = pos 0; recolouring = pos 0 }) in
+    let step : IsCounted p c.loop-area.area c.args.class c.index.result.now c.counted.result =
+    record { owned = c.counted.ensures.owned; weight = c.counted.ensures.weight; recolouring = c.counted.ensures.recolouring } in
+    tallies_more p parts c.args.class c.loop-area.area c.loop-area.tallies.items c.counted.result (omega arith) within c.loop-area.invariant
+    (subst (λ (t : Tally). IsCounted p c.loop-area.area c.args.class t c.counted.result) read step)

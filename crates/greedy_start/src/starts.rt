@@ -1,0 +1,91 @@
+// One region for each part.
+ghost use Rattle.std.specs.Prelude.{◌≡◌, ◌<◌, ◌≤◌, ℕ, length, slice_index, IfOk, EachIndex};
+ghost use Rattle.agg_model.specs.Plan.{Groups, IsFeasible};
+ghost use Rattle.greedy_start.specs.Starts.{IsNumberedByLeast, IsOneRegionEach, IsFirstHopeless};
+ghost use Rattle.greedy_start.specs.Tallies.{IsStart, IsFirstNone};
+
+use crate::choices::{Best, best_classes};
+use agg_base::NoMemory;
+use agg_model::{Grouping, Problem, parts};
+use std::alloc::{AllocFailed, Global};
+use thiserror::Error;
+
+/// Why there is no first grouping.
+#[derive(Clone, Copy, Debug, PartialEq, Eq, Error)]
+pub enum StartFault {
+    /// No grouping is feasible: no area of this area's part owns a class whose threshold is at most the weight of the part. It is the
+    /// least area of the first such part.
+    #[error("no class can cover the part of area {area}")]
+    Hopeless { area: u32 },
+    /// Memory is wanting.
+    #[error("out of memory")]
+    Memory,
+}
+
+impl From<NoMemory> for StartFault {
+    ghost use Rattle.greedy_start.specs.declared.starts.StartFault.{StartFault};
+
+    ghost from_gives = { λ _ e. e ≡ StartFault.Memory };
+
+    fn from(_: NoMemory) -> Self {
+        StartFault::Memory
+    }
+}
+
+impl<T: Drop> From<AllocFailed<T>> for StartFault {
+    ghost use Rattle.greedy_start.specs.declared.starts.StartFault.{StartFault};
+
+    ghost from_gives = { λ _ e. e ≡ StartFault.Memory };
+
+    fn from(_: AllocFailed<T>) -> Self {
+        StartFault::Memory
+    }
+}
+
+/// A feasible grouping, with regions numbered by their least areas: one region for each part. Its class is the one of least recolouring among
+/// those that an area of the part owns and whose threshold is at most the weight of the part, the least number at a tie.
+///
+/// `Hopeless` comes exactly where no grouping is feasible, and names the least area of the first part that has no such class.
+pub fn start(alloc: Global, problem: &Problem) -> Result<Grouping, StartFault>
+    ensures found { IfOk result (λ g. IsFeasible problem.now g × IsNumberedByLeast problem.now g) }
+    ensures chosen { IfOk result (λ g. IsOneRegionEach problem.now g) }
+    ensures hopeless { (v : ℕ) → result ≡ Err (StartFault.Hopeless v) → IsFirstHopeless problem.now v }
+    ensures none { (v : ℕ) → result ≡ Err (StartFault.Hopeless v) → (g : Groups) → ¬ IsFeasible problem.now g }
+{
+    problem.rules();
+    let parts = parts(alloc, problem)?;
+    let best = best_classes(alloc, problem, &parts)?;
+    one_region_each(alloc, &parts, &best)
+}
+
+/// One region for each part, with its best class.
+fn one_region_each(
+    alloc: Global,
+    parts: &[u32],
+    best: &[Option<Best>],
+) -> Result<Grouping, StartFault>
+    requires few { length parts.now ≤ 65536 }
+    requires length { length best.now ≡ length parts.now }
+    requires down { EachIndex parts.now (λ v. slice_index parts.now v ≤ v) }
+    ensures found { IfOk result (λ g. IsStart parts.now best.now (length parts.now) g) }
+    ensures hopeless { (v : ℕ) → result ≡ Err (StartFault.Hopeless v) → IsFirstNone parts.now best.now v }
+{
+    let mut region_of = Vec::new(alloc);
+    let mut class_of = Vec::new(alloc);
+    for area in 0..parts.len() {
+        let part = parts[area] as usize;
+        if part != area {
+            region_of.push(region_of[part])?;
+            continue;
+        }
+        let Some(Best { class, .. }) = best[area] else {
+            return Err(StartFault::Hopeless { area: area as u32 });
+        };
+        region_of.push(class_of.len() as u32)?;
+        class_of.push(class)?;
+    }
+    Ok(Grouping {
+        region_of,
+        class_of,
+    })
+}
