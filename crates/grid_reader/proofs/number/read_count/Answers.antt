@@ -1,0 +1,5 @@
+use Rattle.grid_reader.proofs.Digits.{digits_are_text}
+use Rattle.grid_reader.proofs.number.read_count.Goals as goal
+
+pub returns-in_default-clause-none : goal.returns-in_default-clause-none
+returns-in_default-clause-none c = λ n is. c.in_default.ensures.cases.0 (digits_are_text c.args.text.now is.numeral.1)

@@ -1,0 +1,16 @@
+pub mod Raster
+pub mod Walks
+pub mod Patches
+pub mod Forest
+pub mod Areas
+pub mod Members
+pub mod Faults
+pub mod Words
+pub mod JsonNumbers
+pub mod Numbers
+pub mod Header
+pub mod Reading
+pub mod Cells
+pub mod Whole
+pub mod Body
+pub mod GridTexts

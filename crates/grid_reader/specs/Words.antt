@@ -1,0 +1,40 @@
+-- The words of a line. Byte 32 is the space, 9 the tab and 13 the carriage return.
+use Rattle.std.specs.Prelude.{◌≡◌, ◌==◌, ◌||◌, not, ℕ, Bool, true, List, [], length, map, slice_index, slice_index_or}
+use Rattle.std.specs.Borrow.{Bor}
+use Rattle.std.specs.List.{slice_split, filter}
+use Rattle.std.specs.Char.{is_ascii_alphabetic}
+
+-- a space or a tab
+abbrev pub is_blank : ℕ → Bool
+is_blank byte = (byte == 32) || (byte == 9)
+
+-- what parts cells in a line
+abbrev pub is_gap : ℕ → Bool
+is_gap byte = is_blank byte || (byte == 13)
+
+-- there is something
+abbrev pub is_filled : List ℕ → Bool
+is_filled text = not (length text == 0)
+
+-- the words of a line: what stands between blanks
+unfoldable pub words : List ℕ → List (List ℕ)
+words line = filter is_filled (slice_split is_blank line)
+
+-- the words of a line of cells: what stands between blanks and carriage returns
+unfoldable pub cell_words : List ℕ → List (List ℕ)
+cell_words line = filter is_filled (slice_split is_gap line)
+
+abbrev pub word : List (List ℕ) → ℕ → List ℕ
+word parts at = slice_index_or parts at []
+
+-- the texts that slices hold
+abbrev pub texts : List (Bor (List ℕ)) → List (List ℕ)
+texts = map (λ x. x.now)
+
+-- the line has no word
+abbrev pub IsBlankLine : List ℕ → Type 0
+IsBlankLine line = words line ≡ []
+
+-- the first word of the line begins with a letter
+abbrev pub IsHeaderLine : List ℕ → Type 0
+IsHeaderLine line = is_ascii_alphabetic (slice_index (word (words line) 0) 0) ≡ true
