@@ -1,0 +1,4 @@
+pub mod Places
+pub mod CrossLemmas
+pub mod RowLemmas
+pub mod BankLemmas

@@ -1,0 +1,12 @@
+use Rattle.std.proofs.Common.{arith, rules, pos, ◌<ℤ◌}
+use Rattle.std.proofs.lemmas.List.Sorted.{IsPartitionPoint-from_clause}
+use Rattle.whole_ring.proofs.Signs.{lin}
+use Rattle.edge_rows.specs.Banks.{is_under}
+use Rattle.edge_rows.proofs.BankLemmas.{tops_parted}
+use Rattle.edge_rows.proofs.asking.rows_under.Goals as goal
+
+pub returns-clause-point : goal.returns-clause-point
+returns-clause-point c =
+    let s = c.args.spot.now in
+    let real : pos 0 <ℤ s.m = omega (arith, lin, c.requires.bounded.real) in
+    IsPartitionPoint-from_clause (λ r. is_under r s) c.args.rows.now c.partition_point.result c.partition_point.ensures.partitioned (tops_parted c.args.rows.now s real c.requires.rising) (λ a r q k. search rules)
