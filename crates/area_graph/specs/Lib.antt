@@ -1,0 +1,5 @@
+pub mod Lengths
+pub mod Weights
+pub mod Problems
+pub mod Steps
+pub mod GraphLaws
