@@ -1,0 +1,5 @@
+pub mod LineLemmas
+pub mod StepLemmas
+pub mod CoverLaws
+pub mod LoadLemmas
+pub mod RefusalLemmas

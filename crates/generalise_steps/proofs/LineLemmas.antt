@@ -1,0 +1,56 @@
+-- The lines, as they are printed piece by piece.
+use Rattle.std.proofs.Common.{◌≡◌, ◌∙◌, ℕ, ℤ, List, [], ◌∷◌, ◌++◌, codes, refl, ap, sym, append_assoc, IfOk, Result}
+use Rattle.std.specs.Fmt.{decimal, signed_decimal}
+use Rattle.std.proofs.lemmas.Result.{IfOk-weaker}
+use Rattle.agg_base.specs.Texts.{spaced}
+use Rattle.plane_edge.specs.declared.edge.Edge.{Edge}
+use Rattle.plane_edge.specs.declared.spot.Spot.{Spot}
+use Rattle.grid_reader.specs.declared.fault.GridFault.TheVariants as grid
+use Rattle.class_table.specs.declared.fault.Why.{Why}
+use Rattle.class_table.specs.declared.fault.TableFault.TheVariants as tables
+use Rattle.coverage_check.specs.declared.fault.CoverFault.TheVariants as cover
+use Rattle.generalise_steps.specs.FaultLines.{map_line, table_line, cover_line, weight_line, why_word, edge_words, spot_words}
+
+-- the text of what was printed is the line
+pub text_is : {E : Type 0} (r : Result (List ℕ) E) (now printed line : List ℕ) → IfOk r (λ t. t ≡ now) → now ≡ printed → printed ≡ line → IfOk r (λ t. t ≡ line)
+text_is r now printed line told e f = IfOk-weaker r (λ t. t ≡ now) (λ t. t ≡ line) (λ t h. h ∙ (e ∙ f)) told
+
+-- two words and the end of the line
+two : (a b : List ℕ) → a ++ (32 ∷ (b ++ 10 ∷ [])) ≡ (a ++ (32 ∷ b)) ++ 10 ∷ []
+two a b = sym (append_assoc a (32 ∷ b) (10 ∷ []))
+
+-- words behind words
+spaced-more : (x y : List ℕ) (xs ys : List (List ℕ)) → spaced ((x ∷ xs) ++ (y ∷ ys)) ≡ spaced (x ∷ xs) ++ (32 ∷ spaced (y ∷ ys))
+spaced-more x y [] ys = refl
+spaced-more x y (z ∷ xs) ys = ap (λ t. x ++ (32 ∷ t)) (spaced-more z y xs ys) ∙ sym (append_assoc x (32 ∷ spaced (z ∷ xs)) (32 ∷ spaced (y ∷ ys)))
+
+pub cell_line : (row column : ℕ) → codes "refused: map Cell " ++ (decimal row ++ (32 ∷ (decimal column ++ 10 ∷ []))) ≡ map_line (grid.Cell row column)
+unfolding map_line
+cell_line row column = ap (λ t. codes "refused: map Cell " ++ t) (two (decimal row) (decimal column))
+
+pub rule_line : (number : ℕ) (why : Why) → codes "refused: table Line " ++ (decimal number ++ (32 ∷ (why_word why ++ 10 ∷ []))) ≡ table_line (tables.Line number why)
+unfolding table_line
+rule_line number why = ap (λ t. codes "refused: table Line " ++ t) (two (decimal number) (why_word why))
+
+pub light_line : (area : ℕ) (sum : ℤ) → codes "refused: weights NoWeight " ++ (decimal area ++ (32 ∷ (signed_decimal sum ++ 10 ∷ []))) ≡ weight_line area sum
+unfolding weight_line
+light_line area sum = ap (λ t. codes "refused: weights NoWeight " ++ t) (two (decimal area) (signed_decimal sum))
+
+pub overlap_line : (a b : ℕ) (s : Spot)
+    → codes "refused: coverage Overlap " ++ (decimal a ++ (32 ∷ (decimal b ++ (32 ∷ (spaced (spot_words s) ++ 10 ∷ []))))) ≡ cover_line (cover.Overlap a b s)
+unfolding cover_line
+overlap_line a b s = ap (λ t. codes "refused: coverage Overlap " ++ t)
+    (ap (λ t. decimal a ++ (32 ∷ t)) (two (decimal b) (spaced (spot_words s))) ∙ two (decimal a) (decimal b ++ (32 ∷ spaced (spot_words s))))
+
+pub crossing_line : (e f : Edge) (s : Spot)
+    → codes "refused: coverage Crossing " ++ (spaced (edge_words e) ++ (32 ∷ (spaced (edge_words f) ++ (32 ∷ (spaced (spot_words s) ++ 10 ∷ []))))) ≡ cover_line (cover.Crossing e f s)
+unfolding cover_line
+crossing_line e f s = ap (λ t. codes "refused: coverage Crossing " ++ t) (
+    ap (λ t. spaced (edge_words e) ++ (32 ∷ t)) (two (spaced (edge_words f)) (spaced (spot_words s)))
+    ∙ two (spaced (edge_words e)) (spaced (edge_words f) ++ (32 ∷ spaced (spot_words s)))
+    ∙ ap (λ t. (spaced (edge_words e) ++ (32 ∷ t)) ++ 10 ∷ []) (sym (joined f s))
+    ∙ ap (λ t. t ++ 10 ∷ []) (sym (spaced-more (signed_decimal e.low.x) (signed_decimal f.low.x) (signed_decimal e.low.y ∷ signed_decimal e.high.x ∷ signed_decimal e.high.y ∷ [])
+    (signed_decimal f.low.y ∷ signed_decimal f.high.x ∷ signed_decimal f.high.y ∷ spot_words s))))
+  where
+    joined : (f : Edge) (s : Spot) → spaced (edge_words f ++ spot_words s) ≡ spaced (edge_words f) ++ (32 ∷ spaced (spot_words s))
+    joined f s = spaced-more (signed_decimal f.low.x) (codes "at") (signed_decimal f.low.y ∷ signed_decimal f.high.x ∷ signed_decimal f.high.y ∷ []) (signed_decimal s.x ∷ signed_decimal s.y ∷ signed_decimal s.m ∷ [])

@@ -1,0 +1,5 @@
+pub mod FaultLines
+pub mod Halts
+pub mod Loads
+pub mod Refusals
+pub mod LoadLaws

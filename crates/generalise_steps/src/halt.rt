@@ -1,0 +1,25 @@
+// Why there is nothing to go on with.
+use agg_base::{NoMemory, Text};
+
+/// Why a map and a table give no problem.
+#[derive(Drop)]
+pub enum Halt {
+    /// A step refuses them. The line says which one and why, and ends with a line feed.
+    Refused(Text),
+    /// Memory is wanting. No other cause has this answer.
+    Memory,
+}
+
+impl Halt {
+    ghost use Rattle.std.specs.Prelude.{◌≡◌, MatchResult};
+
+    /// The refusal by a line, where there was memory for it.
+    pub(crate) fn of(line: Result<Text, NoMemory>) -> Halt
+        ensures { MatchResult line (λ l. result ≡ Halt.Refused l) (λ _. result ≡ Halt.Memory) }
+    {
+        match line {
+            Ok(line) => Halt::Refused(line),
+            Err(NoMemory) => Halt::Memory,
+        }
+    }
+}

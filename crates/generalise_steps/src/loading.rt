@@ -1,0 +1,108 @@
+// From two texts to the problem, step by step. The first step that refuses decides.
+ghost use Rattle.std.specs.Prelude.{◌≡◌, ◌≤◌, ℕ, List, length, IfOk, IfErr, Err};
+ghost use Rattle.plane_edge.specs.Rings.{Outline};
+ghost use Rattle.plane_edge.specs.declared.frame.Frame.{Frame};
+ghost use Rattle.grid_reader.specs.GridTexts.{SpellsGrid};
+ghost use Rattle.class_table.specs.Classes.{Classes};
+ghost use Rattle.class_table.specs.TableTexts.{IsTableText};
+ghost use Rattle.area_graph.specs.Problems.{IsProblemOf, AreHeavy};
+ghost use Rattle.generalise_steps.specs.Halts.{IfRefused};
+ghost use Rattle.generalise_steps.specs.Loads.{IsMap, Loads};
+ghost use Rattle.generalise_steps.specs.Refusals.{Refuses};
+
+use crate::graph_lines::{no_weight, unknown_class};
+use crate::{Halt, cover_lines, map_lines, table_lines};
+use agg_model::Problem;
+use area_graph::{GraphFault, problem_of};
+use class_table::Table;
+use coverage_check::{Checked, check};
+use crew_work::Crew;
+use plane_edge::Coverage;
+use std::alloc::Global;
+
+/// A map and a table that are accepted.
+#[derive(Drop)]
+pub struct Loaded {
+    /// The map: its areas by their odd edges, planar and disjoint.
+    pub checked: Checked,
+    /// The class table.
+    pub table: Table,
+    /// The problem of both.
+    pub problem: Problem,
+}
+
+// Reads the map's text.
+fn read_map(alloc: Global, map: &[u8]) -> Result<Coverage, Halt>
+    requires { length map.now ≤ 67108864 }
+    ensures found { IfOk result (λ c. SpellsGrid map.now c.areas.items c.frame) }
+    ensures passed { IfOk result (λ c. c.passed ≡ 0) }
+    ensures refused { (table : List ℕ) → IfErr result (λ h. IfRefused h (Refuses map.now table)) }
+{
+    match grid_reader::read(alloc, map) {
+        Ok(coverage) => Ok(coverage),
+        Err(fault) => Err(Halt::of(map_lines::line_of(alloc, fault))),
+    }
+}
+
+// Reads the table's text.
+fn read_table(alloc: Global, table: &[u8]) -> Result<Table, Halt>
+    requires { length table.now ≤ 1048576 }
+    ensures found { IfOk result (λ t. IsTableText table.now t) }
+    ensures refused { (map : List ℕ) (areas : List Outline) (frame : Frame) → SpellsGrid map areas frame → IfErr result (λ h. IfRefused h (Refuses map table.now)) }
+{
+    match class_table::read(alloc, table) {
+        Ok(table) => Ok(table),
+        Err(fault) => Err(Halt::of(table_lines::line_of(alloc, fault))),
+    }
+}
+
+// Checks the coverage.
+fn check_cover<W: Crew>(alloc: Global, coverage: Coverage, crew: &W) -> Result<Checked, Halt>
+    requires passed { coverage.passed ≡ 0 }
+    ensures found { (map : List ℕ) → SpellsGrid map coverage.areas.items coverage.frame → IfOk result (λ c. IsMap map c) }
+    ensures refused { (map table : List ℕ) (t : Classes) → SpellsGrid map coverage.areas.items coverage.frame → IsTableText table t
+        → IfErr result (λ h. IfRefused h (Refuses map table)) }
+{
+    match check(alloc, coverage, crew) {
+        Ok(checked) => Ok(checked),
+        Err(fault) => Err(Halt::of(cover_lines::line_of(alloc, fault))),
+    }
+}
+
+// Makes the problem.
+fn make_problem(alloc: Global, checked: &Checked, table: &Table) -> Result<Problem, Halt>
+    ensures found { IfOk result (λ p. IsProblemOf checked.now.areas table.now p) }
+    ensures heavy { IfOk result (λ _. AreHeavy checked.now.areas table.now (length checked.now.areas)) }
+    ensures refused { (map text : List ℕ) → IsMap map checked.now → IsTableText text table.now → IfErr result (λ h. IfRefused h (Refuses map text)) }
+{
+    match problem_of(alloc, checked, table) {
+        Ok(problem) => Ok(problem),
+        Err(GraphFault::UnknownClass { area }) => Err(Halt::of(unknown_class(alloc, area))),
+        Err(GraphFault::NoWeight { area, sum }) => Err(Halt::of(no_weight(alloc, area, sum))),
+        Err(GraphFault::Memory) => Err(Halt::Memory),
+    }
+}
+
+/// The checked map, the class table and the problem that the texts of a map and of a table spell.
+///
+/// The map is an ESRI ASCII grid. There are four steps: the map is read, the table is read, the coverage is checked, and the problem
+/// is made. `Refused` comes exactly where one of them refuses, and carries the line of the first that does: `refused:`, where the
+/// fault is, its name and its fields, parted by spaces, and a line feed, as in `refused: map Cell 0 1`. It is in the `map` or the
+/// `table` for a text, in the `coverage` for borders that cross or areas that overlap, in the `classes` for an area whose class text
+/// is no name of the table, and in the `weights` for an area that weighs less than 1. The answer is the same for every crew.
+pub fn load<W: Crew>(alloc: Global, map: &[u8], table: &[u8], crew: &W) -> Result<Loaded, Halt>
+    requires map { length map.now ≤ 67108864 }
+    requires table { length table.now ≤ 1048576 }
+    ensures found { IfOk result (λ l. Loads map.now table.now l.checked l.table l.problem) }
+    ensures refused { (line : List ℕ) → result ≡ Err (Halt.Refused line) → Refuses map.now table.now line }
+{
+    let coverage = read_map(alloc, map)?;
+    let table = read_table(alloc, table)?;
+    let checked = check_cover(alloc, coverage, crew)?;
+    let problem = make_problem(alloc, &checked, &table)?;
+    Ok(Loaded {
+        checked,
+        table,
+        problem,
+    })
+}
