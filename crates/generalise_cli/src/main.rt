@@ -2,6 +2,7 @@
 #![tactic(auto)]
 
 use agg_base::{Text, Words};
+use crew_work::Alone;
 use generalise_core::{Status, run};
 use shelf_io::DiskShelf;
 use std::env;
@@ -37,7 +38,7 @@ fn words_of<R: Env + AllocGlobal>(rt: &R) -> Result<Words, Status> {
 fn main(rt: HostRuntime) -> ExitCode {
     let alloc = rt.alloc();
     let status = match words_of(&rt) {
-        Ok(words) => run(alloc, &words, &mut DiskShelf::new(rt, alloc)),
+        Ok(words) => run(alloc, &words, &mut DiskShelf::new(rt, alloc), &Alone),
         Err(status) => status,
     };
     ExitCode::from(status.code())

@@ -6,7 +6,7 @@ use Rattle.std.proofs.lemmas.List.{map-append, take_more}
 use Rattle.std.proofs.lemmas.List.FromFn.{map-range_with_len_more}
 use Rattle.std.proofs.lemmas.Grind.{flat_map-append}
 use Rattle.agg_base.specs.Texts.{ended}
-use Rattle.generalise_core.specs.Certificates.{escape_line, spaced_below}
+use Rattle.generalise_core.specs.Certificates.{escape_line, spaced_numbers}
 
 pub ended-append : (xs ys : List (List ℕ)) → ended (xs ++ ys) ≡ ended xs ++ ended ys
 ended-append [] ys = refl
@@ -29,18 +29,27 @@ ended-map-more f text front new xs i x h e before now =
     next_line text front new (map f (take i xs)) (f x) before now
     ∙ ap (λ t. text ++ ended t) (sym (ap (map f) (take_more xs i x h ∙ ap (λ y. take i xs ++ y ∷ []) (sym e)) ∙ map-append f (take i xs) (x ∷ [])))
 
-pub spaced_below-more : (n : ℕ) → spaced_below (n + 1) ≡ spaced_below n ++ (32 ∷ decimal n)
-spaced_below-more n =
-    ap (flat_map (λ member. 32 ∷ decimal member)) (sym (map-id (range_with_len 0 (n + 1))) ∙ map-range_with_len_more (λ k. k) 0 n n (zero-add n) ∙ ap (λ t. t ++ n ∷ []) (map-id (range_with_len 0 n)))
-    ∙ flat_map-append (λ member. 32 ∷ decimal member) (range_with_len 0 n) (n ∷ [])
-    ∙ ap (λ t. spaced_below n ++ t) (append-nil (32 ∷ decimal n))
+pub spaced_numbers-more : (xs : List ℕ) (i x : ℕ) → i < length xs → x ≡ get_or xs i x
+    → spaced_numbers (take (i + 1) xs) ≡ spaced_numbers (take i xs) ++ (32 ∷ decimal x)
+spaced_numbers-more xs i x h e =
+    ap spaced_numbers (take_more xs i x h ∙ ap (λ y. take i xs ++ y ∷ []) (sym e))
+    ∙ flat_map-append (λ member. 32 ∷ decimal member) (take i xs) (x ∷ [])
+    ∙ ap (λ t. spaced_numbers (take i xs) ++ t) (append-nil (32 ∷ decimal x))
 
-pub ended-escape-more : (areas n : ℕ) (text front new : List ℕ)
-    → front ≡ text ++ ended (map (escape_line areas) (range_with_len 0 n)) → new ≡ front ++ ended (escape_line areas n ∷ [])
-    → new ≡ text ++ ended (map (escape_line areas) (range_with_len 0 (n + 1)))
-ended-escape-more areas n text front new before now =
-    next_line text front new (map (escape_line areas) (range_with_len 0 n)) (escape_line areas n) before now
-    ∙ ap (λ t. text ++ ended t) (sym (map-range_with_len_more (escape_line areas) 0 n n (zero-add n)))
+-- one more number of a list, after a space
+pub numbers-more : (text front spaced new xs : List ℕ) (i x : ℕ) → i < length xs → x ≡ get_or xs i x
+    → front ≡ text ++ spaced_numbers (take i xs) → spaced ≡ front ++ 32 ∷ [] → new ≡ spaced ++ decimal x
+    → new ≡ text ++ spaced_numbers (take (i + 1) xs)
+numbers-more text front spaced new xs i x h e before space digits =
+    and_then text front new (spaced_numbers (take i xs)) (32 ∷ decimal x) before (digits ∙ ap (λ t. t ++ decimal x) space ∙ append_assoc front (32 ∷ []) (decimal x))
+    ∙ ap (λ t. text ++ t) (sym (spaced_numbers-more xs i x h e))
+
+pub ended-escape-more : (area : ℕ) (part : List ℕ) (n : ℕ) (text front new : List ℕ)
+    → front ≡ text ++ ended (map (escape_line area part) (range_with_len 0 n)) → new ≡ front ++ ended (escape_line area part n ∷ [])
+    → new ≡ text ++ ended (map (escape_line area part) (range_with_len 0 (n + 1)))
+ended-escape-more area part n text front new before now =
+    next_line text front new (map (escape_line area part) (range_with_len 0 n)) (escape_line area part n) before now
+    ∙ ap (λ t. text ++ ended t) (sym (map-range_with_len_more (escape_line area part) 0 n n (zero-add n)))
 
 -- four pieces, one after the other
 pub four_pieces : (a b c d : List (List ℕ)) → (ended a ++ ended b) ++ ended c ++ ended d ≡ ended (a ++ b ++ c ++ d)

@@ -2,15 +2,13 @@
 use Rattle.std.proofs.Common.{◌≡◌, ◌≤◌, ◌<◌, inl, inr, ℕ, List, length, Option, Some, IfSome, refl, sym, ◌∙◌, ap, subst, arith}
 use Rattle.shelf_io.specs.Files.{Files, text_at}
 use Rattle.agg_model.specs.Plan.{Plan, Groups, IsFeasible}
-use Rattle.row_reader.specs.RowMaps.{IsRowMap}
-use Rattle.row_reader.specs.TableTexts.{IsTableText}
-use Rattle.row_problem.specs.Runs.{IsRowProblem}
-use Rattle.row_reader.proofs.MapLemmas.{one_row_map}
-use Rattle.row_reader.proofs.TableLemmas.{one_table_text}
-use Rattle.row_problem.proofs.OneRows.{one_problem_law, unknown_law}
 use Rattle.generalise_core.specs.Words.{Request, Spells}
 use Rattle.generalise_core.specs.Certificates.{Stated}
-use Rattle.generalise_core.specs.Answers.{IsAccepted, Refuses, no_map, no_table, unknown, States}
+use Rattle.generalise_steps.specs.Refusals.{Refuses}
+use Rattle.generalise_steps.proofs.LoadLemmas.{one_load}
+use Rattle.generalise_steps.proofs.RefusalLemmas.{loaded_not_refused}
+use Rattle.generalise_core.specs.Answers.{IsAccepted, States}
+use Rattle.generalise_core.proofs.SaidLemmas.{one_request}
 use Rattle.generalise_core.specs.Stops.{line_of, status_of_stop}
 use Rattle.generalise_core.specs.Runs.{IsText, IsTooLong, IsRefused, long_map, long_table, texts, Answered, Accepts, IsProblemOf, AreRefused, map_limit, table_limit}
 use Rattle.generalise_core.specs.Plans.{IsStopped}
@@ -18,25 +16,6 @@ use Rattle.generalise_core.specs.declared.outcome.Kind.TheVariants.{Hopeless}
 use Rattle.generalise_core.specs.declared.stop.Stop.{Stop}
 use Rattle.generalise_core.specs.declared.stop.Stop.TheVariants as stop
 use Rattle.generalise_core.specs.declared.status.Status.TheVariants as status
-
--- ---- the words
-
-request_of : List ℕ → List ℕ → List ℕ → List ℕ → Request
-request_of m t o c = record { map = m; table = t; out = o; certificate = c }
-
-same_request : (r s : Request) → r.map ≡ s.map → r.table ≡ s.table → r.out ≡ s.out → r.certificate ≡ s.certificate → r ≡ s
-unfolding request_of
-same_request r s m t o c =
-    ap (λ x. request_of x r.table r.out r.certificate) m
-    ∙ ap (λ x. request_of s.map x r.out r.certificate) t
-    ∙ ap (λ x. request_of s.map s.table x r.certificate) o
-    ∙ ap (λ x. request_of s.map s.table s.out x) c
-
-pub one_request : (words : List (List ℕ)) (r s : Request) → Spells words r → Spells words s → r ≡ s
-one_request words r s h k =
-    let e = h.words_are in
-    let f = k.words_are in
-    same_request r s (cc) (cc) (cc) (cc)
 
 -- ---- texts that told files hold
 
@@ -57,12 +36,7 @@ not_too_long m name limit bytes text long =
 -- ---- accepted texts are refused by no line
 
 accepted_texts : (map table line : List ℕ) (p : Plan) → IsAccepted map table p → ¬ Refuses map table line
-accepted_texts map table line p a (no_map never) = never a.cells a.is_map
-accepted_texts map table line p a (no_table cells is never) = never a.classes a.is_table
-accepted_texts map table line p a (unknown cells t v is_map is_table least) =
-    let same_cells : a.cells ≡ cells = one_row_map map a.cells cells a.is_map is_map in
-    let same_table : a.classes ≡ t = one_table_text table a.classes t a.is_table is_table in
-    unknown_law cells t v p least (subst (λ c. IsRowProblem c t p) same_cells (subst (λ u. IsRowProblem a.cells u p) same_table a.is_problem))
+accepted_texts map table line p a = loaded_not_refused map table line a.checked a.classes p a.loads
 
 accepted_files : (m : Files) (r : Request) (line : List ℕ) (p : Plan) → Accepts (Some m) r p → ¬ IsRefused (Some m) r line
 accepted_files m r line p a (long_map long) = not_too_long m r.map map_limit a.map a.map_is long
@@ -73,7 +47,7 @@ accepted_files m r line p a (texts map table l is_map is_table refuses) =
     accepted_texts a.map a.table l p a.accepted (subst (λ t. Refuses a.map t l) f (subst (λ b. Refuses b table l) e refuses))
 
 accepts_of : (files : Option Files) (r : Request) (s : Stated) → (a : Answered files r s) → Accepts files r a.answers.problem
-accepts_of files r s a = record { map = a.map; table = a.table; map_is = a.map_is; table_is = a.table_is; accepted = a.answers.accepted }
+accepts_of files r s a = record { map = a.map; table = a.table; map_is = a.map_is; table_is = a.table_is; accepted = record { checked = a.answers.checked; classes = a.answers.classes; loads = a.answers.loads } }
 
 -- an answered request is refused by no line
 pub answered_not_refused : (files : Option Files) (words : List (List ℕ)) (r : Request) (s : Stated) (line : List ℕ)
@@ -87,10 +61,8 @@ one_problem : (m : Files) (r : Request) (p q : Plan) → Accepts (Some m) r p �
 one_problem m r p q a b =
     let e : b.map ≡ a.map = one_text m r.map map_limit b.map a.map b.map_is a.map_is in
     let f : b.table ≡ a.table = one_text m r.table table_limit b.table a.table b.table_is a.table_is in
-    let cells : b.accepted.cells ≡ a.accepted.cells = one_row_map a.map b.accepted.cells a.accepted.cells (subst (λ x. IsRowMap x b.accepted.cells) e b.accepted.is_map) a.accepted.is_map in
-    let classes : b.accepted.classes ≡ a.accepted.classes = one_table_text a.table b.accepted.classes a.accepted.classes (subst (λ x. IsTableText x b.accepted.classes) f b.accepted.is_table) a.accepted.is_table in
-    one_problem_law a.accepted.cells a.accepted.classes p q a.accepted.is_table.content a.accepted.is_problem
-    (subst (λ c. IsRowProblem c a.accepted.classes q) cells (subst (λ t. IsRowProblem b.accepted.cells t q) classes b.accepted.is_problem))
+    let there : IsAccepted a.map a.table q = subst (λ x. IsAccepted x a.table q) e (subst (λ x. IsAccepted b.map x q) f b.accepted) in
+    (one_load a.map a.table a.accepted.checked there.checked a.accepted.classes there.classes p q a.accepted.loads there.loads).2
 
 -- what is stated of the problem of told files
 stated_problem : (files : Option Files) (words : List (List ℕ)) (r : Request) (s : Stated) (p : Plan)

@@ -1,4 +1,4 @@
-pub mod WordLists
+pub mod SaidLemmas
 pub mod Endings
 pub mod Decisions
 pub mod Exclusions

@@ -1,55 +1,32 @@
 -- From an answer to a problem to a plan for two texts.
-use Rattle.std.proofs.Common.{◌≡◌, ◌⊎◌, inl, inr, ◌≤◌, ℕ, ℤ, pos, ◌≤ℤ◌, List, [], Ok, Err, Some, None, refl, sym, subst, ap, ◌∙◌}
-use Rattle.agg_model.specs.Plan.{Groups, IsPlan, IsFeasible, areas, cost}
-use Rattle.agg_model.specs.Plan.{Plan as Setting}
+use Rattle.std.proofs.Common.{◌≡◌, ◌≢◌, ◌↔◌, ◌<◌, ◌+◌, ◌-◌, inl, inr, ℕ, zero, suc, ℤ, pos, ◌≤ℤ◌, List, [], ◌∷◌, ◌++◌, length, slice_index, get_or, Contains, Some, None, refl, sym, subst, ap, ◌∙◌, arith, length-append}
+use Rattle.std.proofs.lemmas.Bool.{cases_lt}
+use Rattle.std.proofs.lemmas.List.{get_or_append_left, get_or-append_right}
+use Rattle.std.proofs.lemmas.List.Elements.{Contains-get_or, Contains-append_left, Contains-append_right, Contains-append_cases}
+use Rattle.agg_model.specs.Plan.{Plan, Groups, IsPlan, IsFeasible, IsRising, areas, cost}
+use Rattle.agg_model.specs.Parts.{AreParts, InOnePart}
 use Rattle.agg_model.proofs.CostLemmas.{cost_law}
-use Rattle.row_reader.specs.Classes.{Classes}
-use Rattle.row_reader.specs.RowMaps.{IsRowMap}
-use Rattle.row_reader.specs.TableTexts.{IsTableText}
-use Rattle.row_problem.specs.Runs.{IsRowProblem}
-use Rattle.row_problem.specs.Choices.{IsChosen, IsJoined, IsOpen, one_region}
-use Rattle.row_problem.proofs.Regions.{one_region_law, hopeless_law}
+use Rattle.greedy_start.specs.Starts.{IsNumberedByLeast, IsOneRegionEach, IsFirstHopeless}
+use Rattle.greedy_start.proofs.PartLemmas.{one_number, one_way, parts_law}
 use Rattle.generalise_core.specs.Certificates.{Stated}
-use Rattle.generalise_core.specs.Answers.{Refuses, States, IsAccepted, IsBound, IsKindOf, leaf_of}
-use Rattle.generalise_core.specs.Plans.{IsPlanned, Writes}
+use Rattle.generalise_core.specs.Answers.{States, IsBound, IsKindOf, IsPartOf, IsVoidOver, leaf_of}
+use Rattle.generalise_core.specs.Places.{ArePlaces}
 use Rattle.generalise_core.specs.declared.outcome.Kind.TheVariants.{Hopeless}
-use Rattle.generalise_core.specs.declared.outcome.Leaf.TheVariants.{Void}
-use Rattle.generalise_core.specs.declared.plan.Halt.{Halt}
-use Rattle.generalise_core.specs.declared.plan.Halt.TheVariants as halt
-use Rattle.generalise_core.specs.declared.plan.Plan.{Plan}
-use Rattle.generalise_core.specs.declared.stop.Stop.TheVariants as stop
-
--- a refusal by a line, or want of memory
-pub halted : (map table line : List ℕ) (h : Halt) → (h ≡ halt.Memory) ⊎ (h ≡ halt.Stopped (stop.Refused line)) → Refuses map table line → IsPlanned map table (Err h)
-halted map table line h which refuses =
-    elim which [
-      | inl memory ↦ subst (λ x. IsPlanned map table (Err x)) (sym memory) (tt)
-      | inr stopped ↦ subst (λ x. IsPlanned map table (Err x)) (sym stopped) refuses
-    ]
-
-pub planned_is : (map table cells : List ℕ) (t : Classes) (p : Setting) (plan : Plan) → IsRowMap map cells → IsTableText table t → IsRowProblem cells t p
-    → ((s : Stated) × States p s × Writes plan s) → IsPlanned map table (Ok plan)
-planned_is map table cells t p plan is_map is_table is_problem states =
-    let accepted : IsAccepted map table p = record { cells = cells; classes = t; is_map = is_map; is_table = is_table; is_problem = is_problem } in
-    (states.0, record { problem = p; accepted = accepted; states = states.1 }, states.2)
 
 -- no grouping costs less than 0
-no_less : (p : Setting) → IsPlan p → IsBound p (pos 0)
+no_less : (p : Plan) → IsPlan p → IsBound p (pos 0)
 no_less p plan = λ g feasible. cost_law p g plan feasible.numbered
 
-pub feasible_region : (p : Setting) (k : ℕ) → IsPlan p → IsJoined p → IsChosen p k → (g : Groups) → g ≡ one_region p k → IsFeasible p g
-feasible_region p k plan joined chosen g same = subst (IsFeasible p) (sym same) (one_region_law p k plan joined chosen.is_open)
-
-pub states_grouping : (p : Setting) (k : ℕ) (s : Stated) → IsPlan p → IsJoined p → IsChosen p k → s.areas ≡ areas p → s.grouping ≡ one_region p k
-    → s.cost ≡ Some (cost p s.grouping) → s.bound ≡ Some (pos 0) → IsKindOf (pos 0) (cost p s.grouping) s.kind → s.leaf ≡ leaf_of p → States p s
-states_grouping p k s plan joined chosen count grouping price bound kind leaf = (
+pub states_grouping : (p : Plan) (s : Stated) → IsPlan p → IsFeasible p s.grouping → IsNumberedByLeast p s.grouping → IsOneRegionEach p s.grouping
+    → s.areas ≡ areas p → s.cost ≡ Some (cost p s.grouping) → s.bound ≡ Some (pos 0) → IsKindOf (pos 0) (cost p s.grouping) s.kind
+    → s.leaf ≡ leaf_of p → States p s
+states_grouping p s plan feasible numbered one_each count price bound kind leaf = (
   count,
   inl (record {
-    class = k;
     bound = pos 0;
-    is_chosen = chosen;
-    grouping_is = grouping;
-    feasible = feasible_region p k plan joined chosen s.grouping grouping;
+    feasible = feasible;
+    numbered = numbered;
+    one_each = one_each;
     states_cost = price;
     states_bound = bound;
     is_bound = no_less p plan;
@@ -59,15 +36,25 @@ states_grouping p k s plan joined chosen count grouping price bound kind leaf = 
   }),
 )
 
-pub states_none : (p : Setting) (s : Stated) → IsPlan p → 1 ≤ areas p → ((k : ℕ) → ¬ IsOpen p k) → s.areas ≡ areas p → s.kind ≡ Hopeless
-    → s.grouping ≡ record { region_of = []; class_of = [] } → s.cost ≡ None → s.bound ≡ None → s.leaf ≡ Void p.classes → States p s
-states_none p s plan some closed count kind grouping price bound leaf = (
+pub states_none : (p : Plan) (s : Stated) (area : ℕ) → IsFirstHopeless p area → ((g : Groups) → ¬ IsFeasible p g) → s.areas ≡ areas p
+    → s.kind ≡ Hopeless → s.grouping ≡ record { region_of = []; class_of = [] } → s.cost ≡ None → s.bound ≡ None → IsVoidOver p area s.leaf
+    → States p s
+states_none p s area first never count kind grouping price bound leaf = (
   count,
-  inr (record { kind = kind; none_feasible = hopeless_law p plan some closed; no_grouping = grouping; no_cost = price; no_bound = bound; leaf = leaf }),
+  inr (record {
+    area = area;
+    kind = kind;
+    none_feasible = never;
+    first = first;
+    no_grouping = grouping;
+    no_cost = price;
+    no_bound = bound;
+    leaf = leaf;
+  }),
 )
 
 -- a grouping's cost is 0 or more
-pub cost_is_least : (p : Setting) (g : Groups) (c : ℤ) → IsPlan p → IsFeasible p g → c ≡ cost p g → pos 0 ≤ℤ c
+pub cost_is_least : (p : Plan) (g : Groups) (c : ℤ) → IsPlan p → IsFeasible p g → c ≡ cost p g → pos 0 ≤ℤ c
 cost_is_least p g c plan feasible same = subst (λ x. pos 0 ≤ℤ x) (sym same) (cost_law p g plan feasible.numbered)
 
 abbrev pub groups_of : List ℕ → List ℕ → Groups
@@ -75,3 +62,114 @@ groups_of regions classes = record { region_of = regions; class_of = classes }
 
 pub no_groups : (regions classes : List ℕ) → regions ≡ [] → classes ≡ [] → groups_of regions classes ≡ groups_of [] []
 no_groups regions classes e f = ap (λ x. groups_of x classes) e ∙ ap (groups_of []) f
+
+-- the areas whose part has that number are the part of its least area
+pub part_places : (p : Plan) (area : ℕ) (parts places : List ℕ) → IsFirstHopeless p area → length parts ≡ areas p
+    → AreParts p (λ v. slice_index parts v) → ArePlaces parts area places → IsPartOf p area places
+part_places p area parts places first long are_parts are =
+    let top : slice_index parts area ≡ area = parts_law p (λ v. slice_index parts v) first.part are_parts first.are_parts area first.within ∙ first.least in
+    record {
+      rising = are.rising;
+      exact = λ v.
+          let at = are.exact v in (
+            λ inside.
+                let here : v < areas p = subst (λ n. v < n) long (at.0 inside).0 in
+                (here, one_way p (λ v. slice_index parts v) are_parts area v first.within here (top ∙ sym (at.0 inside).1)),
+            λ joined. at.1 (subst (λ n. v < n) (sym long) joined.0, sym (one_number p (λ v. slice_index parts v) are_parts area v first.within joined.0 joined.1) ∙ top),
+          );
+    }
+
+-- ---- the places of a number
+
+-- the places among the first n where the number stands, in rising order
+pub record ArePlacesBelow (numbers : List ℕ) (number n : ℕ) (places : List ℕ) : Type 0 where
+  pub rising : IsRising places
+  pub exact : (v : ℕ) → Contains places v ↔ ((v < n) × (slice_index numbers v ≡ number))
+
+pub no_places : (numbers : List ℕ) (number : ℕ) (places : List ℕ) → places ≡ [] → ArePlacesBelow numbers number 0 places
+no_places numbers number places none =
+    subst (ArePlacesBelow numbers number 0) (sym none) (record {
+      rising = λ i j h k. absurd (omega arith);
+      exact = λ v. ((λ inside. (let h = inside.1 in absurd (omega arith))), (λ below. (let h = below.0 in absurd (omega arith))));
+    })
+
+one_has : (n : ℕ) → Contains (n ∷ []) n
+one_has n = (0, omega arith, refl)
+
+in_one : (n v : ℕ) → Contains (n ∷ []) v → v ≡ n
+in_one n v inside = go inside.0 inside.1 inside.2
+  where
+    go : (k : ℕ) → k < length (n ∷ []) → get_or (n ∷ []) k v ≡ v → v ≡ n
+    go zero h q = sym q
+    go (suc k) h q = absurd (omega arith)
+
+-- the places read, with one more at the end
+left_place : (places : List ℕ) (n i : ℕ) → i < length places → slice_index (places ++ n ∷ []) i ≡ slice_index places i
+left_place places n i h = get_or_append_left places (n ∷ []) 0 i h
+
+last_place : (places : List ℕ) (n i : ℕ) → i ≡ length places → slice_index (places ++ n ∷ []) i ≡ n
+last_place places n i e =
+    let none : i - length places ≡ 0 = omega arith in
+    get_or-append_right places (n ∷ []) (length places) i 0 refl (omega arith) ∙ ap (λ k. get_or (n ∷ []) k 0) none
+
+below_all : (numbers : List ℕ) (number n : ℕ) (places : List ℕ) → ArePlacesBelow numbers number n places → (i : ℕ) → i < length places → slice_index places i < n
+below_all numbers number n places are i h = ((are.exact (slice_index places i)).0 (Contains-get_or places i 0 h)).0
+
+rising_more : (numbers : List ℕ) (number n : ℕ) (places : List ℕ) → ArePlacesBelow numbers number n places → IsRising (places ++ n ∷ [])
+rising_more numbers number n places are = λ i j h k.
+    let long : length (places ++ n ∷ []) ≡ length places + 1 = length-append places (n ∷ []) in
+    let here : i < length places = omega arith in
+    let first = left_place places n i here in
+    elim (cases_lt j (length places)) [
+      | inl before ↦ (
+          let second = left_place places n j before in
+          let less = are.rising i j h before in
+          omega arith
+          )
+      | inr past ↦ (
+          let second = last_place places n j (omega arith) in
+          let less = below_all numbers number n places are i here in
+          omega arith
+          )
+    ]
+
+pub place_more : (numbers : List ℕ) (number n : ℕ) (places : List ℕ) → slice_index numbers n ≡ number
+    → ArePlacesBelow numbers number n places → ArePlacesBelow numbers number (n + 1) (places ++ n ∷ [])
+place_more numbers number n places here are = record {
+  rising = rising_more numbers number n places are;
+  exact = λ v. (
+    λ inside. elim (Contains-append_cases places (n ∷ []) v inside) [
+      | inl before ↦ (let less = ((are.exact v).0 before).0 in (omega arith, ((are.exact v).0 before).1))
+      | inr last ↦ (let e : v ≡ n = in_one n v last in (omega arith, ap (slice_index numbers) e ∙ here))
+    ],
+    λ below. elim (cases_lt v n) [
+      | inl less ↦ Contains-append_left places (n ∷ []) v ((are.exact v).1 (less, below.1))
+      | inr past ↦ (
+          let less = below.0 in
+          let e : n ≡ v = omega arith in
+          subst (Contains (places ++ n ∷ [])) e (Contains-append_right places (n ∷ []) n (one_has n))
+          )
+    ],
+  );
+}
+
+pub place_passed : (numbers : List ℕ) (number n : ℕ) (places : List ℕ) → slice_index numbers n ≢ number
+    → ArePlacesBelow numbers number n places → ArePlacesBelow numbers number (n + 1) places
+place_passed numbers number n places other are = record {
+  rising = are.rising;
+  exact = λ v. (
+    λ inside. (let less = ((are.exact v).0 inside).0 in (omega arith, ((are.exact v).0 inside).1)),
+    λ below. elim (cases_lt v n) [
+      | inl less ↦ (are.exact v).1 (less, below.1)
+      | inr past ↦ (
+          let less = below.0 in
+          let e : v ≡ n = omega arith in
+          absurd (other (ap (slice_index numbers) (sym e) ∙ below.1))
+          )
+    ],
+  );
+}
+
+pub all_places : (numbers : List ℕ) (number n : ℕ) (places : List ℕ) → n ≡ length numbers → ArePlacesBelow numbers number n places → ArePlaces numbers number places
+all_places numbers number n places all are =
+    record { rising = are.rising; exact = subst (λ m. (v : ℕ) → Contains places v ↔ ((v < m) × (slice_index numbers v ≡ number))) all are.exact }

@@ -1,12 +1,11 @@
 -- What the program makes of the bytes of the map and the table.
-use Rattle.std.specs.Prelude.{◌≡◌, ℕ, List, [], ◌∷◌, ◌++◌, None, Some, ℤ, pos, ◌≤ℤ◌, ◌<ℤ◌, ◌⊎◌, codes, if◌then◌else◌, ◌==◌}
-use Rattle.std.specs.Fmt.{decimal}
-use Rattle.agg_model.specs.Plan.{Plan, Groups, IsFeasible, areas, cost}
-use Rattle.row_reader.specs.Classes.{Classes}
-use Rattle.row_reader.specs.RowMaps.{IsRowMap}
-use Rattle.row_reader.specs.TableTexts.{IsTableText}
-use Rattle.row_problem.specs.Runs.{IsRowProblem, IsLeastUnknown}
-use Rattle.row_problem.specs.Choices.{IsChosen, one_region}
+use Rattle.std.specs.Prelude.{◌≡◌, ℕ, ◌<◌, List, [], Contains, None, Some, ℤ, pos, ◌≤ℤ◌, ◌<ℤ◌, ◌⊎◌, ◌↔◌, if◌then◌else◌, ◌||◌, ◌==◌}
+use Rattle.agg_model.specs.Plan.{Plan, Groups, IsFeasible, IsRising, areas, cost}
+use Rattle.agg_model.specs.Parts.{InOnePart}
+use Rattle.class_table.specs.Classes.{Classes}
+use Rattle.coverage_check.specs.Checked.{CheckedMap}
+use Rattle.greedy_start.specs.Starts.{IsNumberedByLeast, IsOneRegionEach, IsFirstHopeless}
+use Rattle.generalise_steps.specs.Loads.{Loads}
 use Rattle.generalise_core.specs.declared.outcome.Kind.{Kind}
 use Rattle.generalise_core.specs.declared.outcome.Kind.TheVariants.{Done, Within, Hopeless}
 use Rattle.generalise_core.specs.declared.outcome.Leaf.{Leaf}
@@ -15,18 +14,9 @@ use Rattle.generalise_core.specs.Certificates.{Stated}
 
 -- the map and the table are accepted, and this is their problem
 pub record IsAccepted (map table : List ℕ) (p : Plan) : Type 0 where
-  pub cells : List ℕ
+  pub checked : CheckedMap
   pub classes : Classes
-  pub is_map : IsRowMap map cells
-  pub is_table : IsTableText table classes
-  pub is_problem : IsRowProblem cells classes p
-
--- the line by which the map and the table are refused, from the first rule that fails
-pub data Refuses (map table : List ℕ) : List ℕ → Type 0 where
-  no_map : ((cells : List ℕ) → ¬ IsRowMap map cells) → Refuses map table (codes "refused: map NotBuilt\n")
-  no_table : (cells : List ℕ) → IsRowMap map cells → ((t : Classes) → ¬ IsTableText table t) → Refuses map table (codes "refused: table NotBuilt\n")
-  unknown : (cells : List ℕ) (t : Classes) (v : ℕ) → IsRowMap map cells → IsTableText table t → IsLeastUnknown cells t v
-      → Refuses map table (codes "refused: classes UnknownClass " ++ decimal v ++ 10 ∷ [])
+  pub loads : Loads map table checked classes p
 
 -- no feasible grouping costs less
 abbrev pub IsBound : Plan → ℤ → Type 0
@@ -38,17 +28,16 @@ IsKindOf b c Done = b ≡ c
 IsKindOf b c Within = b <ℤ c
 IsKindOf b c Hopeless = ⊥
 
--- a leaf without rows: `Fixed` where there is only one class
+-- a leaf without rows: `Fixed` where there is only one class, or no area
 abbrev pub leaf_of : Plan → Leaf
-leaf_of p = (if p.classes == 1 then Fixed else Plain)
+leaf_of p = (if (p.classes == 1) || (areas p == 0) then Fixed else Plain)
 
--- One region of all areas is stated, with its cost and a bound. The leaf without rows proves the bound 0.
+-- A feasible grouping is stated, with its cost and a bound. The leaf without rows proves the bound 0.
 pub record StatesGrouping (p : Plan) (s : Stated) : Type 0 where
-  pub class : ℕ
   pub bound : ℤ
-  pub is_chosen : IsChosen p class
-  pub grouping_is : s.grouping ≡ one_region p class
   pub feasible : IsFeasible p s.grouping
+  pub numbered : IsNumberedByLeast p s.grouping
+  pub one_each : IsOneRegionEach p s.grouping
   pub states_cost : s.cost ≡ Some (cost p s.grouping)
   pub states_bound : s.bound ≡ Some bound
   pub is_bound : IsBound p bound
@@ -56,20 +45,36 @@ pub record StatesGrouping (p : Plan) (s : Stated) : Type 0 where
   pub kind : IsKindOf bound (cost p s.grouping) s.kind
   pub leaf : s.leaf ≡ leaf_of p
 
--- it is stated that no grouping is feasible
+-- the areas that links join to that area, in rising order
+pub record IsPartOf (p : Plan) (area : ℕ) (part : List ℕ) : Type 0 where
+  pub rising : IsRising part
+  pub exact : (v : ℕ) → Contains part v ↔ ((v < areas p) × InOnePart p area v)
+
+-- a void leaf of all classes over the part of that area
+abbrev pub IsVoidOver : Plan → ℕ → Leaf → Type 0
+IsVoidOver p area Fixed = ⊥
+IsVoidOver p area Plain = ⊥
+IsVoidOver p area (Void classes least part) = (classes ≡ p.classes) × (least ≡ area) × IsPartOf p area part.items
+
+-- It is stated that no grouping is feasible, since the first hopeless part has none: the one whose least area this is.
 pub record StatesNone (p : Plan) (s : Stated) : Type 0 where
+  pub area : ℕ
   pub kind : s.kind ≡ Hopeless
   pub none_feasible : (g : Groups) → ¬ IsFeasible p g
+  pub first : IsFirstHopeless p area
   pub no_grouping : s.grouping ≡ record { region_of = []; class_of = [] }
   pub no_cost : s.cost ≡ None
   pub no_bound : s.bound ≡ None
-  pub leaf : s.leaf ≡ Void p.classes
+  pub leaf : IsVoidOver p area s.leaf
 
 abbrev pub States : Plan → Stated → Type 0
 States p s = (s.areas ≡ areas p) × (StatesGrouping p s ⊎ StatesNone p s)
 
--- the map and the table are accepted, and this answers their problem
+-- The map and the table are accepted, and this answers their problem. It tells how many areas were passed over.
 pub record IsAnswer (map table : List ℕ) (s : Stated) : Type 0 where
+  pub checked : CheckedMap
+  pub classes : Classes
   pub problem : Plan
-  pub accepted : IsAccepted map table problem
+  pub loads : Loads map table checked classes problem
   pub states : States problem s
+  pub passed : s.passed ≡ checked.passed

@@ -1,3 +1,6 @@
+-- What the values of the code say.
+use Rattle.std.specs.Prelude.{ℕ, List, map}
+use Rattle.std.specs.Borrow.{Bor}
 use Rattle.generalise_core.specs.Words.{Request}
 use Rattle.generalise_core.specs.declared.words.Asked.{Asked}
 

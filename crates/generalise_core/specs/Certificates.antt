@@ -9,11 +9,12 @@ use Rattle.generalise_core.specs.declared.outcome.Kind.TheVariants.{Done, Within
 use Rattle.generalise_core.specs.declared.outcome.Leaf.{Leaf}
 use Rattle.generalise_core.specs.declared.outcome.Leaf.TheVariants.{Fixed, Plain, Void}
 
--- What a certificate states: how the run ends, how many areas there are, the grouping, its cost, a bound of every feasible grouping's
+-- What a certificate and a report state: how the run ends, how many areas there are and how many were passed over, the grouping, its cost, a bound of every feasible grouping's
 -- cost, and the one leaf that proves the bound. Where no grouping is feasible there is no region, no cost and no bound.
 pub record Stated : Type 0 where
   pub kind : Kind
   pub areas : ℕ
+  pub passed : ℕ
   pub grouping : Groups
   pub cost : Option ℤ
   pub bound : Option ℤ
@@ -28,19 +29,19 @@ abbrev pub number_or_dash : Option ℤ → List ℕ
 number_or_dash None = codes "-"
 number_or_dash (Some n) = signed_decimal n
 
--- the numbers below a bound, each after a space
-abbrev pub spaced_below : ℕ → List ℕ
-spaced_below n = flat_map (λ member. 32 ∷ decimal member) (range_with_len 0 n)
+-- numbers, each after a space
+abbrev pub spaced_numbers : List ℕ → List ℕ
+spaced_numbers = flat_map (λ member. 32 ∷ decimal member)
 
--- an escape row: multiplier 1, the least area, the class, and all areas as the set
-abbrev pub escape_line : ℕ → ℕ → List ℕ
-escape_line areas class = codes "e 1 0 " ++ decimal class ++ 32 ∷ decimal areas ++ spaced_below areas
+-- an escape row: multiplier 1, the area, the class, how many areas the set has, and these
+abbrev pub escape_line : ℕ → List ℕ → ℕ → List ℕ
+escape_line area part class = codes "e 1 " ++ decimal area ++ 32 ∷ decimal class ++ 32 ∷ decimal (length part) ++ spaced_numbers part
 
 -- a leaf whose domains are single, one of the cost mode without rows, or a void one with an escape row for each class
-abbrev pub leaf_lines : ℕ → Leaf → List (List ℕ)
-leaf_lines areas Fixed = codes "f" ∷ []
-leaf_lines areas Plain = codes "c 1 0" ∷ []
-leaf_lines areas (Void classes) = (codes "v " ++ decimal classes) ∷ map (escape_line areas) (range_with_len 0 classes)
+abbrev pub leaf_lines : Leaf → List (List ℕ)
+leaf_lines Fixed = codes "f" ∷ []
+leaf_lines Plain = codes "c 1 0" ∷ []
+leaf_lines (Void classes area part) = (codes "v " ++ decimal classes) ∷ map (escape_line area part.items) (range_with_len 0 classes)
 
 abbrev pub head_lines : Stated → List (List ℕ)
 head_lines s =
@@ -63,15 +64,15 @@ abbrev pub group_lines : Groups → List (List ℕ)
 group_lines g = map region_line g.class_of ++ map area_line g.region_of
 
 unfoldable pub certificate : Stated → List ℕ
-certificate s = ended (head_lines s ++ group_lines s.grouping ++ leaf_lines s.areas s.leaf ++ codes "end" ∷ [])
+certificate s = ended (head_lines s ++ group_lines s.grouping ++ leaf_lines s.leaf ++ codes "end" ∷ [])
 
--- what is said: the certificate has one leaf, so there is no split, and no area was passed over
+-- what is said: the certificate has one leaf, so there is no split
 unfoldable pub report : Stated → List ℕ
 report s =
     ended (
     kind_word s.kind
     ∷ (codes "areas " ++ decimal s.areas)
-    ∷ codes "passed 0"
+    ∷ (codes "passed " ++ decimal s.passed)
     ∷ (codes "regions " ++ decimal (length s.grouping.class_of))
     ∷ (codes "cost " ++ number_or_dash s.cost)
     ∷ (codes "bound " ++ number_or_dash s.bound)

@@ -1,3 +1,5 @@
+pub mod Places
+pub mod Texts
 pub mod Words
 pub mod Asked
 pub mod Certificates

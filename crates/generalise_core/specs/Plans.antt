@@ -4,7 +4,8 @@ use Rattle.shelf_io.specs.Files.{Files}
 use Rattle.shelf_io.specs.Causes.{Rose}
 use Rattle.generalise_core.specs.Words.{Request}
 use Rattle.generalise_core.specs.Certificates.{Stated, certificate, report}
-use Rattle.generalise_core.specs.Answers.{IsAnswer, Refuses}
+use Rattle.generalise_core.specs.Answers.{IsAnswer}
+use Rattle.generalise_steps.specs.Refusals.{Refuses}
 use Rattle.generalise_core.specs.Runs.{Answered, IsText, IsTooLong, map_limit, table_limit}
 use Rattle.generalise_core.specs.declared.plan.Halt.{Halt}
 use Rattle.generalise_core.specs.declared.plan.Halt.TheVariants as halt

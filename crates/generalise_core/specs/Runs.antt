@@ -5,7 +5,8 @@ use Rattle.shelf_io.specs.Causes.{Rose}
 use Rattle.agg_model.specs.Plan.{Plan}
 use Rattle.generalise_core.specs.Words.{Request, Spells}
 use Rattle.generalise_core.specs.Certificates.{Stated, certificate, report}
-use Rattle.generalise_core.specs.Answers.{IsAccepted, IsAnswer, Refuses}
+use Rattle.generalise_core.specs.Answers.{IsAccepted, IsAnswer}
+use Rattle.generalise_steps.specs.Refusals.{Refuses}
 use Rattle.generalise_core.specs.Stops.{usage_line}
 use Rattle.generalise_core.specs.Puts.{Due, all_stored, IsPartlyPut}
 use Rattle.generalise_core.specs.Codes.{status_of}

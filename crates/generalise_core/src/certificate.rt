@@ -1,5 +1,6 @@
 // The text of a certificate and of the report.
-ghost use Rattle.std.specs.Prelude.{◌≡◌, ◌++◌, ◌∷◌, ◌≤◌, [], map, length, OnOk, IfOk};
+ghost use Rattle.std.specs.Prelude.{◌≡◌, ◌++◌, ◌∷◌, ◌≤◌, [], map, length, codes, OnOk, IfOk};
+ghost use Rattle.std.specs.Fmt.{decimal};
 ghost use Rattle.std.specs.List.{range_with_len};
 ghost use Rattle.agg_base.specs.Texts.{ended};
 ghost use Rattle.generalise_core.specs.Certificates.{certificate, report, head_lines, group_lines, leaf_lines, escape_line, kind_word};
@@ -47,26 +48,35 @@ fn push_groups(out: &mut Vec<u8>, grouping: &Grouping) -> Result<(), NoMemory>
 }
 
 // An escape row for each class.
-fn push_escapes(out: &mut Vec<u8>, areas: u32, classes: u8) -> Result<(), NoMemory>
-    ensures { OnOk result (out.new.items ≡ out.old.items ++ ended (map (escape_line areas) (range_with_len 0 classes))) }
+fn push_escapes(out: &mut Vec<u8>, classes: u8, area: u32, part: &[u32]) -> Result<(), NoMemory>
+    ensures { OnOk result (out.new.items ≡ out.old.items ++ ended (map (escape_line area part.now) (range_with_len 0 classes))) }
 {
     for class in 0..classes {
-        push_escape(out, areas, class)?;
+        push_escape(out, area, class, part)?;
     }
     Ok(())
 }
 
-fn push_leaf(out: &mut Vec<u8>, areas: u32, leaf: Leaf) -> Result<(), NoMemory>
-    ensures { OnOk result (out.new.items ≡ out.old.items ++ ended (leaf_lines areas leaf)) }
+// The lines of a void leaf.
+fn push_void(out: &mut Vec<u8>, classes: u8, area: u32, part: &[u32]) -> Result<(), NoMemory>
+    ensures { OnOk result (out.new.items ≡ out.old.items ++ ended ((codes "v " ++ decimal classes) ∷ map (escape_line area part.now) (range_with_len 0 classes))) }
+{
+    push_count(out, b"v ", u32::from(classes))?;
+    push_escapes(out, classes, area, part)?;
+    Ok(())
+}
+
+fn push_leaf(out: &mut Vec<u8>, leaf: &Leaf) -> Result<(), NoMemory>
+    ensures { OnOk result (out.new.items ≡ out.old.items ++ ended (leaf_lines leaf.now)) }
 {
     match leaf {
         Leaf::Fixed => push_line(out, b"f"),
         Leaf::Plain => push_line(out, b"c 1 0"),
-        Leaf::Void { classes } => {
-            push_count(out, b"v ", u32::from(classes))?;
-            push_escapes(out, areas, classes)?;
-            Ok(())
-        }
+        Leaf::Void {
+            classes,
+            area,
+            part,
+        } => push_void(out, *classes, *area, part),
     }
 }
 
@@ -87,7 +97,7 @@ pub fn certificate(alloc: Global, outcome: &Outcome) -> Result<Vec<u8>, NoMemory
     let regions = region_count(&outcome.grouping);
     push_head(&mut out, outcome, regions)?;
     push_groups(&mut out, &outcome.grouping)?;
-    push_leaf(&mut out, outcome.areas, outcome.leaf)?;
+    push_leaf(&mut out, &outcome.leaf)?;
     push_line(&mut out, b"end")?;
     Ok(out)
 }
@@ -101,7 +111,7 @@ pub fn report(alloc: Global, outcome: &Outcome) -> Result<Vec<u8>, NoMemory>
     let mut out = Vec::new(alloc);
     push_line(&mut out, word_of(outcome.kind))?;
     push_count(&mut out, b"areas ", outcome.areas)?;
-    push_line(&mut out, b"passed 0")?;
+    push_count(&mut out, b"passed ", outcome.passed)?;
     push_count(&mut out, b"regions ", regions)?;
     push_number_or_dash(&mut out, b"cost ", outcome.cost)?;
     push_number_or_dash(&mut out, b"bound ", outcome.bound)?;

@@ -4,6 +4,7 @@ ghost use Rattle.generalise_core.specs.Asked.{request};
 ghost use Rattle.generalise_core.specs.Plans.{IsDecided};
 
 use crate::{Asked, Halt, Plan, Stop, make_plan};
+use crew_work::Crew;
 use shelf_io::{Fetch, Shelf};
 use std::alloc::Global;
 
@@ -14,7 +15,12 @@ pub const MAP_LIMIT: usize = 67_108_864;
 pub const TABLE_LIMIT: usize = 1_048_576;
 
 /// Fetches the map and the table, and makes of them what is to be put out.
-pub fn decide<S: Shelf>(alloc: Global, shelf: &mut S, asked: &Asked) -> Result<Plan, Halt>
+pub fn decide<S: Shelf, W: Crew>(
+    alloc: Global,
+    shelf: &mut S,
+    asked: &Asked,
+    crew: &W,
+) -> Result<Plan, Halt>
     ensures decided { IsDecided (S.files shelf.old) (request asked.now) (S.fetch_faults shelf.old) (S.fetch_faults shelf.new) (S.missed shelf.new) result }
     ensures files { S.files shelf.new ≡ S.files shelf.old }
     ensures said { S.said shelf.new ≡ S.said shelf.old }
@@ -32,5 +38,5 @@ pub fn decide<S: Shelf>(alloc: Global, shelf: &mut S, asked: &Asked) -> Result<P
         Err(Fetch::TooLong) => return Err(Halt::Stopped(Stop::TableTooLong)),
         Err(Fetch::Memory) => return Err(Halt::Memory),
     };
-    make_plan(alloc, &map, &table)
+    make_plan(alloc, &map, &table, crew)
 }

@@ -3,6 +3,7 @@
 
 mod certificate;
 mod decision;
+mod draft;
 mod outcome;
 mod plan;
 mod status;

@@ -14,14 +14,18 @@ pub enum Kind {
 }
 
 /// What proves the bound.
-#[derive(Clone, Copy, Debug, PartialEq, Eq)]
+#[derive(Debug, Drop)]
 pub enum Leaf {
     /// Each area has one class alone.
     Fixed,
     /// No row: a grouping costs 0 or more.
     Plain,
-    /// One escape row for each class, with all areas as the set.
-    Void { classes: u8 },
+    /// One escape row for each class, of this area and with its part as the set, in rising order.
+    Void {
+        classes: u8,
+        area: u32,
+        part: Vec<u32>,
+    },
 }
 
 /// An answer, as the certificate and the report state it.
@@ -30,6 +34,8 @@ pub struct Outcome {
     pub kind: Kind,
     /// The number of areas.
     pub areas: u32,
+    /// How many areas were passed over.
+    pub passed: u32,
     /// The grouping; empty where none is feasible.
     pub grouping: Grouping,
     /// The grouping's cost.
@@ -44,5 +50,5 @@ impl Model for Outcome {
 
     ghost Value = { Stated };
 
-    ghost view = { λ o. record { kind = o.kind; areas = o.areas; grouping = o.grouping; cost = o.cost; bound = o.bound; leaf = o.leaf } };
+    ghost view = { λ o. record { kind = o.kind; areas = o.areas; passed = o.passed; grouping = o.grouping; cost = o.cost; bound = o.bound; leaf = o.leaf } };
 }

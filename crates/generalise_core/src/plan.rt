@@ -1,18 +1,20 @@
 // From the bytes of the two files to what is put out: values alone.
-ghost use Rattle.std.specs.Prelude.{◌≡◌, ◌≤◌, ◌⊎◌, ◌++◌, ◌∷◌, [], ℕ, codes, length, pos, ◌≤ℤ◌, IfOk};
-ghost use Rattle.std.specs.Fmt.{decimal};
-ghost use Rattle.agg_model.specs.Plan.{areas, cost};
-ghost use Rattle.row_problem.specs.Choices.{IsChosen, IsJoined, IsOpen};
-ghost use Rattle.generalise_core.specs.Answers.{IsKindOf, States, leaf_of};
+ghost use Rattle.std.specs.Prelude.{◌≡◌, ◌≤◌, ◌<◌, ℕ, length, pos, ◌≤ℤ◌, slice_index, IfOk};
+ghost use Rattle.agg_model.specs.Plan.{Groups, IsFeasible, areas, cost};
+ghost use Rattle.agg_model.specs.Parts.{AreParts};
+ghost use Rattle.greedy_start.specs.Starts.{IsNumberedByLeast, IsOneRegionEach, IsFirstHopeless};
+ghost use Rattle.generalise_core.specs.Answers.{IsKindOf, IsPartOf, States, leaf_of};
+ghost use Rattle.generalise_core.specs.Places.{ArePlaces};
 ghost use Rattle.generalise_core.specs.Certificates.{Stated};
 ghost use Rattle.generalise_core.specs.Plans.{IsPlanned, Writes};
 
 use crate::certificate::{certificate, report};
 use crate::{Kind, Leaf, Outcome, Stop};
-use agg_base::{NoMemory, Text};
-use agg_model::{Grouping, Problem, cost};
-use row_problem::{RowFault, choice, one_region, problem_of};
-use row_reader::{read_map, read_table};
+use agg_base::NoMemory;
+use agg_model::{Grouping, Problem, cost, parts};
+use crew_work::Crew;
+use generalise_steps::load;
+use greedy_start::{StartFault, start};
 use std::alloc::Global;
 
 /// What a run is to store and say.
@@ -30,26 +32,6 @@ pub enum Halt {
     Memory,
 }
 
-// A refusal by a line.
-fn refused(alloc: Global, line: &str) -> Halt
-    ensures { (result ≡ Halt.Memory) ⊎ (result ≡ Halt.Stopped (Stop.Refused line.now)) }
-{
-    match Text::of(alloc, line) {
-        Ok(line) => Halt::Stopped(Stop::Refused(line)),
-        Err(NoMemory) => Halt::Memory,
-    }
-}
-
-// The refusal of an area whose class is unknown.
-fn unknown_class(alloc: Global, area: u32) -> Halt
-    ensures { (result ≡ Halt.Memory) ⊎ (result ≡ Halt.Stopped (Stop.Refused (codes "refused: classes UnknownClass " ++ decimal area ++ 10 ∷ []))) }
-{
-    match format!(in alloc; "refused: classes UnknownClass {area}\n") {
-        Ok(line) => refused(alloc, line.as_str()),
-        Err(_) => Halt::Memory,
-    }
-}
-
 fn kind_of(cost: i128) -> Kind
     requires { pos 0 ≤ℤ cost }
     ensures { IsKindOf (pos 0) cost result }
@@ -57,46 +39,74 @@ fn kind_of(cost: i128) -> Kind
     if cost == 0 { Kind::Done } else { Kind::Within }
 }
 
-// A leaf without rows: a class alone leaves no choice.
+// A leaf without rows: a class alone leaves no choice, and so do no areas.
 fn leaf_for(problem: &Problem) -> Leaf
     ensures { result ≡ leaf_of problem.now }
 {
-    if problem.classes() == 1 {
+    if problem.classes() == 1 || problem.areas() == 0 {
         Leaf::Fixed
     } else {
         Leaf::Plain
     }
 }
 
-// One region of all areas, and the bound 0.
-fn grouped(alloc: Global, problem: &Problem, class: u8) -> Result<Outcome, NoMemory>
-    requires joined { IsJoined problem.now }
-    requires chosen { IsChosen problem.now class }
-    ensures { IfOk result (λ outcome. States problem.now outcome) }
+// A grouping with its cost, and the bound 0.
+fn grouped(problem: &Problem, grouping: Grouping, passed: u32) -> Outcome
+    requires feasible { IsFeasible problem.now grouping }
+    requires numbered { IsNumberedByLeast problem.now grouping }
+    requires one_each { IsOneRegionEach problem.now grouping }
+    ensures states { States problem.now result }
+    ensures passed { result.passed ≡ passed }
 {
     problem.rules();
-    let grouping = one_region(alloc, problem, class)?;
     let cost = cost(problem, &grouping);
-    Ok(Outcome {
+    Outcome {
         kind: kind_of(cost),
         areas: problem.areas(),
+        passed,
         grouping,
         cost: Some(cost),
         bound: Some(0),
         leaf: leaf_for(problem),
-    })
+    }
 }
 
-// That no grouping is feasible.
-fn hopeless(alloc: Global, problem: &Problem) -> Outcome
-    requires some { 1 ≤ areas problem.now }
-    requires closed { (k : ℕ) → ¬ IsOpen problem.now k }
-    ensures { States problem.now result }
+// The areas of the part whose least area this is.
+fn part_of(alloc: Global, problem: &Problem, area: u32) -> Result<Vec<u32>, NoMemory>
+    requires first { IsFirstHopeless problem.now area }
+    ensures { IfOk result (λ part. IsPartOf problem.now area part.items) }
 {
     problem.rules();
-    Outcome {
+    let parts = parts(alloc, problem)?;
+    members(alloc, &parts, area)
+}
+
+// The places where a number stands.
+fn members(alloc: Global, numbers: &[u32], number: u32) -> Result<Vec<u32>, NoMemory>
+    requires { length numbers.now ≤ 65536 }
+    ensures { IfOk result (λ places. ArePlaces numbers.now number places.items) }
+{
+    let mut places = Vec::new(alloc);
+    for place in 0..numbers.len() {
+        if numbers[place] == number {
+            places.push(place as u32)?;
+        }
+    }
+    Ok(places)
+}
+
+// That no grouping is feasible, since nothing can cover the part of that area.
+fn hopeless(alloc: Global, problem: &Problem, area: u32, passed: u32) -> Result<Outcome, NoMemory>
+    requires first { IsFirstHopeless problem.now area }
+    requires none { (g : Groups) → ¬ IsFeasible problem.now g }
+    ensures states { IfOk result (λ outcome. States problem.now outcome) }
+    ensures passed { IfOk result (λ outcome. outcome.passed ≡ passed) }
+{
+    let part = part_of(alloc, problem, area)?;
+    Ok(Outcome {
         kind: Kind::Hopeless,
         areas: problem.areas(),
+        passed,
         grouping: Grouping {
             region_of: Vec::new(alloc),
             class_of: Vec::new(alloc),
@@ -105,19 +115,21 @@ fn hopeless(alloc: Global, problem: &Problem) -> Outcome
         bound: None,
         leaf: Leaf::Void {
             classes: problem.classes(),
+            area,
+            part,
         },
-    }
+    })
 }
 
-// The answer to a problem: one region of all areas, where a class is open.
-fn answer(alloc: Global, problem: &Problem) -> Result<Outcome, NoMemory>
-    requires joined { IsJoined problem.now }
-    requires some { 1 ≤ areas problem.now }
-    ensures { IfOk result (λ outcome. States problem.now outcome) }
+// The answer to a problem: one region for each part, where each part has an open class.
+fn answer(alloc: Global, problem: &Problem, passed: u32) -> Result<Outcome, NoMemory>
+    ensures states { IfOk result (λ outcome. States problem.now outcome) }
+    ensures passed { IfOk result (λ outcome. outcome.passed ≡ passed) }
 {
-    match choice(problem) {
-        Some(class) => grouped(alloc, problem, class),
-        None => Ok(hopeless(alloc, problem)),
+    match start(alloc, problem) {
+        Ok(grouping) => Ok(grouped(problem, grouping, passed)),
+        Err(StartFault::Hopeless { area }) => hopeless(alloc, problem, area, passed),
+        Err(StartFault::Memory) => Err(NoMemory),
     }
 }
 
@@ -134,35 +146,27 @@ fn written(alloc: Global, outcome: &Outcome) -> Result<Plan, NoMemory>
 }
 
 // What is to be put out for a problem.
-fn planned(alloc: Global, problem: &Problem) -> Result<Plan, NoMemory>
-    requires joined { IsJoined problem.now }
-    requires some { 1 ≤ areas problem.now }
-    ensures { IfOk result (λ plan. (s : Stated) × States problem.now s × Writes plan s) }
+fn planned(alloc: Global, problem: &Problem, passed: u32) -> Result<Plan, NoMemory>
+    ensures { IfOk result (λ plan. (s : Stated) × States problem.now s × (s.passed ≡ passed) × Writes plan s) }
 {
-    let outcome = answer(alloc, problem)?;
+    let outcome = answer(alloc, problem, passed)?;
     written(alloc, &outcome)
 }
 
 /// What is to be put out, or the line that refuses the files.
-pub fn make_plan(alloc: Global, map: &[u8], table: &[u8]) -> Result<Plan, Halt>
+pub fn make_plan<W: Crew>(alloc: Global, map: &[u8], table: &[u8], crew: &W) -> Result<Plan, Halt>
+    requires map { length map.now ≤ 67108864 }
+    requires table { length table.now ≤ 1048576 }
     ensures { IsPlanned map.now table.now result }
 {
-    let cells = match read_map(alloc, map) {
-        Ok(Some(cells)) => cells,
-        Ok(None) => return Err(refused(alloc, "refused: map NotBuilt\n")),
-        Err(NoMemory) => return Err(Halt::Memory),
+    let loaded = match load(alloc, map, table, crew) {
+        Ok(loaded) => loaded,
+        Err(generalise_steps::Halt::Refused(line)) => return Err(Halt::Stopped(Stop::Refused(
+            line,
+        ))),
+        Err(generalise_steps::Halt::Memory) => return Err(Halt::Memory),
     };
-    let classes = match read_table(alloc, table) {
-        Ok(Some(classes)) => classes,
-        Ok(None) => return Err(refused(alloc, "refused: table NotBuilt\n")),
-        Err(NoMemory) => return Err(Halt::Memory),
-    };
-    let problem = match problem_of(alloc, &cells, &classes) {
-        Ok(problem) => problem,
-        Err(RowFault::UnknownClass { area }) => return Err(unknown_class(alloc, area)),
-        Err(RowFault::Memory) => return Err(Halt::Memory),
-    };
-    match planned(alloc, &problem) {
+    match planned(alloc, &loaded.problem, loaded.checked.passed()) {
         Ok(plan) => Ok(plan),
         Err(NoMemory) => Err(Halt::Memory),
     }

@@ -1,6 +1,7 @@
 // Runs over files in memory.
 use super::*;
 use agg_base::{NoMemory, Text, Words};
+use crew_work::Alone;
 use shelf_io::{MemShelf, SureShelf, names_differ};
 use std::alloc::Global;
 use std::process::Abort;
@@ -50,7 +51,7 @@ fn ending_of(
     let files = files_of(alloc, map, table)?;
     assert!(rt; names_differ(&files));
     let mut shelf = MemShelf::new(alloc, files, Vec::from_slice(alloc, failing)?);
-    let code = run(alloc, &words_of(alloc, words)?, &mut shelf).code();
+    let code = run(alloc, &words_of(alloc, words)?, &mut shelf, &Alone).code();
     let certificate = match shelf.file("c") {
         Some(bytes) => Some(Vec::from_slice(alloc, bytes)?),
         None => None,
@@ -140,99 +141,236 @@ fn stops(
     Ok(end.code == code && end.said.as_slice() == said && end.certificate.is_none())
 }
 
+// Whether a run on this map and table is refused by this line.
+fn refuses(
+    rt: &impl Abort,
+    alloc: Global,
+    map: &[u8],
+    table: &[u8],
+    line: &[u8],
+) -> Result<bool, NoMemory> {
+    stops(rt, alloc, &FORM, map, table, 65, line)
+}
+
 #[test]
 fn what_is_refused_is_named(rt: HostRuntime) -> Result<(), Fail> {
     let alloc = rt.alloc();
+    let centred = b"ncols 3\nnrows 1\nxllcenter 0\nyllcorner 0\ncellsize 1\n1 2 1\n";
+    assert!(rt; refuses(&rt, alloc, centred, TABLE, b"refused: map Centred 3\n")?);
     let short = b"ncols 3\nnrows 1\nxllcorner 0\nyllcorner 0\ncellsize 1\n1 2\n";
-    assert!(rt;
-        stops(
-            &rt,
-            alloc,
-            &FORM,
-            short,
-            TABLE,
-            65,
-            b"refused: map NotBuilt\n"
-        )?
-    );
+    assert!(rt; refuses(&rt, alloc, short, TABLE, b"refused: map Count 2\n")?);
+    let half = b"ncols 3\nnrows 1\nxllcorner 0\nyllcorner 0\ncellsize 1\n1 2.5 1\n";
+    assert!(rt; refuses(&rt, alloc, half, TABLE, b"refused: map Cell 0 1\n")?);
     let strange = b"ncols 3\nnrows 1\nxllcorner 0\nyllcorner 0\ncellsize 1\n1 3 1\n";
     assert!(rt;
-        stops(
+        refuses(
             &rt,
             alloc,
-            &FORM,
             strange,
             TABLE,
-            65,
-            b"refused: classes UnknownClass 1\n",
+            b"refused: classes UnknownClass 1\n"
         )?
     );
+    let repeated = b"classes 1\nborder 1\nclass 4 a\nclass 4 a\n";
     assert!(rt;
-        stops(
+        refuses(
             &rt,
             alloc,
-            &FORM,
             MAP,
-            b"classes 2\n",
-            65,
-            b"refused: table NotBuilt\n",
+            repeated,
+            b"refused: table RepeatedClass 4\n"
         )?
     );
-    assert!(rt; stops(&rt, alloc, &FORM, b"", b"", 65, b"refused: map NotBuilt\n")?);
+    let version = b"classes 2\n";
+    assert!(rt; refuses(&rt, alloc, MAP, version, b"refused: table Line 1 Version\n")?);
+    assert!(rt; refuses(&rt, alloc, centred, version, b"refused: map Centred 3\n")?);
+    assert!(rt;
+        refuses(
+            &rt,
+            alloc,
+            strange,
+            version,
+            b"refused: table Line 1 Version\n"
+        )?
+    );
+    assert!(rt; refuses(&rt, alloc, b"", TABLE, b"refused: map Header 1\n")?);
+    Ok(())
+}
+
+// One row of 1 and 2 in turn, 257 cells long, that begins with 1 or with 2.
+fn push_row(out: &mut Vec<u8>, odd: bool) -> Result<(), NoMemory> {
+    for column in 0..257u32 {
+        let one = (column % 2 == 0) != odd;
+        out.extend_from_slice(if one { b"1 " } else { b"2 " })?;
+    }
+    out.push(b'\n')?;
+    Ok(())
+}
+
+#[test]
+fn a_board_of_single_cells_has_too_many_patches(rt: HostRuntime) -> Result<(), Fail> {
+    let alloc = rt.alloc();
+    let mut map = Vec::from_slice(
+        alloc,
+        b"ncols 257\nnrows 256\nxllcorner 0\nyllcorner 0\ncellsize 1\n",
+    )?;
+    for row in 0..256u32 {
+        push_row(&mut map, row % 2 == 1)?;
+    }
+    assert!(rt; refuses(&rt, alloc, &map, TABLE, b"refused: map Limit Areas\n")?);
+    Ok(())
+}
+
+#[test]
+fn cells_that_touch_at_a_corner_are_not_linked(rt: HostRuntime) -> Result<(), Fail> {
+    let map = b"ncols 2\nnrows 2\nxllcorner 0\nyllcorner 0\ncellsize 1\n1 -9999\n-9999 1\n";
+    let end = ending_of(&rt, rt.alloc(), &FORM, map, TABLE, &[])?;
+    assert_eq!(rt; end.code, 4);
+    assert_eq!(rt;
+        bytes_of(&end.certificate),
+        b"aggregation 1\nstatus none\ncost -\nbound -\nareas 2\nregions 0\nv 2\ne 1 0 0 1 0\ne 1 0 1 1 0\nend\n".as_slice()
+    );
+    let light = b"classes 1\nunit 1 1\nborder 1\nclass 2 1\nclass 2 2\nrow 0 5\nrow 5 0\n";
+    let end = ending_of(&rt, rt.alloc(), &FORM, map, light, &[])?;
+    assert_eq!(rt; end.code, 0);
+    assert_eq!(rt;
+        bytes_of(&end.certificate),
+        b"aggregation 1\nstatus optimal\ncost 0\nbound 0\nareas 2\nregions 2\nr 0\nr 0\na 0\na 1\nc 1 0\nend\n".as_slice()
+    );
+    Ok(())
+}
+
+#[test]
+fn a_single_cell_may_be_hopeless(rt: HostRuntime) -> Result<(), Fail> {
+    let map = b"ncols 1\nnrows 1\nxllcorner 0\nyllcorner 0\ncellsize 1\n1\n";
+    let table = b"classes 1\nborder 0\nclass 4 1\nrow 0\n";
+    let end = ending_of(&rt, rt.alloc(), &FORM, map, table, &[])?;
+    assert_eq!(rt; end.code, 4);
+    assert_eq!(rt;
+        end.said.as_slice(),
+        b"none\nareas 1\npassed 0\nregions 0\ncost -\nbound -\nsplits 0\n".as_slice()
+    );
+    assert_eq!(rt;
+        bytes_of(&end.certificate),
+        b"aggregation 1\nstatus none\ncost -\nbound -\nareas 1\nregions 0\nv 1\ne 1 0 0 1 0\nend\n".as_slice()
+    );
+    Ok(())
+}
+
+#[test]
+fn a_map_without_areas_is_optimal(rt: HostRuntime) -> Result<(), Fail> {
+    let map =
+        b"NCOLS 2\r\nNROWS 1\r\n\r\nXLLCORNER 0\r\nYLLCORNER 0\r\nCELLSIZE 1\r\nNODATA_VALUE 1\r\n1 1";
+    let words = ["generalise", "--splits", "00", "grid", "m", "t", "o", "c"];
+    let end = ending_of(&rt, rt.alloc(), &words, map, TABLE, &[])?;
+    assert_eq!(rt; end.code, 0);
+    assert_eq!(rt;
+        end.said.as_slice(),
+        b"optimal\nareas 0\npassed 0\nregions 0\ncost 0\nbound 0\nsplits 0\n".as_slice()
+    );
+    assert_eq!(rt;
+        bytes_of(&end.certificate),
+        b"aggregation 1\nstatus optimal\ncost 0\nbound 0\nareas 0\nregions 0\nf\nend\n".as_slice()
+    );
     Ok(())
 }
 
 const USAGE: &[u8] =
     b"usage: generalise FORMAT MAP TABLE OUT CERT [--splits N] [--class NAME] [--object NAME] | check FORMAT MAP TABLE OUT CERT [--class NAME] [--object NAME] | make COLUMNS ROWS SEED MAP TABLE OUT CERT [--splits N]\n";
 
+// Whether these words are in no form.
+fn is_usage(rt: &impl Abort, alloc: Global, words: &[&str]) -> Result<bool, NoMemory> {
+    stops(rt, alloc, words, MAP, TABLE, 64, USAGE)
+}
+
 #[test]
 fn other_words_are_usage(rt: HostRuntime) -> Result<(), Fail> {
     let alloc = rt.alloc();
-    assert!(rt; stops(&rt, alloc, &[], MAP, TABLE, 64, USAGE)?);
+    assert!(rt; is_usage(&rt, alloc, &[])?);
+    assert!(rt; is_usage(&rt, alloc, &["generalise", "grid", "m", "t", "o", "c"])?);
     assert!(rt;
-        stops(
+        is_usage(
             &rt,
             alloc,
-            &["generalise", "grid", "m", "t", "o", "o", "--splits", "0"],
-            MAP,
-            TABLE,
-            64,
-            USAGE,
+            &["generalise", "grid", "m", "t", "o", "o", "--splits", "0"]
         )?
     );
     assert!(rt;
-        stops(
+        is_usage(
             &rt,
             alloc,
-            &["generalise", "grid", "m", "t", "o", "c", "--splits=0"],
-            MAP,
-            TABLE,
-            64,
-            USAGE,
+            &["generalise", "grid", "m", "t", "o", "c", "--splits=0"]
         )?
     );
     assert!(rt;
-        stops(
+        is_usage(
             &rt,
             alloc,
-            &["generalise", "grid", "m", "t", "", "c", "--splits", "0"],
-            MAP,
-            TABLE,
-            64,
-            USAGE,
+            &["generalise", "grid", "m", "t", "", "c", "--splits", "0"]
         )?
     );
     assert!(rt;
-        stops(
+        is_usage(
             &rt,
             alloc,
-            &["generalise", "grid", "m", "t", "-o", "c", "--splits", "0"],
-            MAP,
-            TABLE,
-            64,
-            USAGE,
+            &["generalise", "grid", "m", "t", "-o", "c", "--splits", "0"]
         )?
     );
+    assert!(rt;
+        is_usage(
+            &rt,
+            alloc,
+            &["generalise", "grid", "m", "t", "o", "c", "--splits"]
+        )?
+    );
+    assert!(rt;
+        is_usage(
+            &rt,
+            alloc,
+            &["check", "grid", "m", "t", "o", "c", "--splits", "0"]
+        )?
+    );
+    Ok(())
+}
+
+#[test]
+fn an_option_stands_once(rt: HostRuntime) -> Result<(), Fail> {
+    let alloc = rt.alloc();
+    let twice = [
+        "generalise",
+        "--splits",
+        "0",
+        "grid",
+        "m",
+        "t",
+        "o",
+        "c",
+        "--splits",
+        "0",
+    ];
+    assert!(rt; is_usage(&rt, alloc, &twice)?);
+    let long = [
+        "generalise",
+        "grid",
+        "m",
+        "t",
+        "o",
+        "c",
+        "--splits",
+        "00000000",
+    ];
+    assert!(rt; is_usage(&rt, alloc, &long)?);
+    let among = [
+        "generalise",
+        "grid",
+        "m",
+        "--splits",
+        "0000000",
+        "t",
+        "o",
+        "c",
+    ];
+    assert_eq!(rt; ending_of(&rt, alloc, &among, MAP, TABLE, &[])?.code, 3);
     Ok(())
 }
 
@@ -277,7 +415,7 @@ fn a_sure_shelf_takes_all(rt: HostRuntime) -> Result<(), Fail> {
     let files = files_of(alloc, MAP, TABLE)?;
     assert!(rt; names_differ(&files));
     let mut shelf = SureShelf::new(alloc, files);
-    let status = run(alloc, &words_of(alloc, &FORM)?, &mut shelf);
+    let status = run(alloc, &words_of(alloc, &FORM)?, &mut shelf, &Alone);
     assert_eq!(rt; status, Status::Within);
     assert_eq!(rt; shelf.file("c"), Some(WITHIN));
     assert_eq!(rt; shelf.file("o").is_none(), true);

@@ -2,7 +2,7 @@
 ghost use Rattle.std.specs.Prelude.{◌≡◌, ◌++◌, ◌∷◌, [], map, pos, OnOk};
 ghost use Rattle.std.specs.Fmt.{decimal, signed_decimal};
 ghost use Rattle.agg_base.specs.Texts.{ended};
-ghost use Rattle.generalise_core.specs.Certificates.{number_or_dash, region_line, area_line, escape_line, spaced_below};
+ghost use Rattle.generalise_core.specs.Certificates.{number_or_dash, region_line, area_line, escape_line, spaced_numbers};
 
 use agg_base::{NoMemory, print_signed};
 
@@ -76,26 +76,47 @@ fn push_digits(out: &mut Vec<u8>, count: u32) -> Result<(), NoMemory>
     print_signed(out, i128::from(count))
 }
 
-// Appends the numbers below a bound, each after a space.
-fn push_numbers(out: &mut Vec<u8>, count: u32) -> Result<(), NoMemory>
-    ensures { OnOk result (out.new.items ≡ out.old.items ++ spaced_below count) }
+// Appends the digits of a size.
+fn push_size(out: &mut Vec<u8>, size: usize) -> Result<(), NoMemory>
+    ensures { OnOk result (out.new.items ≡ out.old.items ++ decimal size) }
 {
-    for number in 0..count {
+    print_signed(out, size as i128)
+}
+
+// Appends numbers, each after a space.
+fn push_numbers(out: &mut Vec<u8>, numbers: &[u32]) -> Result<(), NoMemory>
+    ensures { OnOk result (out.new.items ≡ out.old.items ++ spaced_numbers numbers.now) }
+{
+    for number in numbers {
         out.push(b' ')?;
-        push_digits(out, number)?;
+        push_digits(out, *number)?;
     }
     Ok(())
 }
 
-/// Appends the escape row of a class, with all areas as its set.
-pub(crate) fn push_escape(out: &mut Vec<u8>, areas: u32, class: u8) -> Result<(), NoMemory>
-    ensures { OnOk result (out.new.items ≡ out.old.items ++ ended (escape_line areas class ∷ [])) }
+// Appends a number that a space stands behind.
+fn push_first(out: &mut Vec<u8>, number: u32) -> Result<(), NoMemory>
+    ensures { OnOk result (out.new.items ≡ out.old.items ++ decimal number ++ 32 ∷ []) }
 {
-    out.extend_from_slice(b"e 1 0 ")?;
-    push_digits(out, u32::from(class))?;
+    push_digits(out, number)?;
     out.push(b' ')?;
-    push_digits(out, areas)?;
-    push_numbers(out, areas)?;
+    Ok(())
+}
+
+/// Appends the escape row of an area and a class, with the part as its set.
+pub(crate) fn push_escape(
+    out: &mut Vec<u8>,
+    area: u32,
+    class: u8,
+    part: &[u32],
+) -> Result<(), NoMemory>
+    ensures { OnOk result (out.new.items ≡ out.old.items ++ ended (escape_line area part.now class ∷ [])) }
+{
+    out.extend_from_slice(b"e 1 ")?;
+    push_first(out, area)?;
+    push_first(out, u32::from(class))?;
+    push_size(out, part.len())?;
+    push_numbers(out, part)?;
     out.push(b'\n')?;
     Ok(())
 }

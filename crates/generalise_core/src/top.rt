@@ -14,6 +14,7 @@ ghost use Rattle.generalise_core.specs.Runs.{MayEndAs, MayFailAs, Answers, IsKep
 
 use crate::{Asked, Halt, Plan, Status, Stop, decide, read_words};
 use agg_base::Words;
+use crew_work::Crew;
 use shelf_io::{Put, Shelf};
 use std::alloc::Global;
 
@@ -88,7 +89,7 @@ fn carry_out<S: Shelf>(shelf: &mut S, asked: &Asked, plan: &Plan) -> Status
 }
 
 /// Reads the words and the files, and stores and says the answer.
-pub fn run<S: Shelf>(alloc: Global, words: &Words, shelf: &mut S) -> Status
+pub fn run<S: Shelf, W: Crew>(alloc: Global, words: &Words, shelf: &mut S, crew: &W) -> Status
     // The words are in no form, exactly.
     ensures usage { result ≡ Status.Usage → ((r : Request) → ¬ Spells words.now r) × (S.said shelf.new ≡ spoken (S.said shelf.old) usage_line) }
     ensures unspelled { ((r : Request) → ¬ Spells words.now r) → MayEndAs Status.Usage result }
@@ -111,10 +112,13 @@ pub fn run<S: Shelf>(alloc: Global, words: &Words, shelf: &mut S) -> Status
     ensures partly { IsPartlyKept (S.files shelf.old) (S.files shelf.new) words.now }
     ensures heard { IsHeard (S.files shelf.old) (S.said shelf.old) (S.said shelf.new) words.now }
 {
-    let Some(asked) = read_words(words) else {
+    let Ok(asked) = read_words(alloc, words) else {
+        return Status::Memory;
+    };
+    let Some(asked) = asked else {
         return tell(shelf, &Stop::Usage);
     };
-    match decide(alloc, shelf, &asked) {
+    match decide(alloc, shelf, &asked, crew) {
         Ok(plan) => carry_out(shelf, &asked, &plan),
         Err(Halt::Stopped(stop)) => tell(shelf, &stop),
         Err(Halt::Memory) => Status::Memory,

@@ -1,9 +1,11 @@
 // The words of the command line.
-ghost use Rattle.std.specs.Prelude.{◌↔◌, IsTrue, IfSome, IfNone};
-ghost use Rattle.generalise_core.specs.Words.{Request, IsName, Differ, Spells};
+ghost use Rattle.std.specs.Prelude.{◌≡◌, ◌≤◌, ◌↔◌, List, ℕ, ◌∷◌, [], codes, Some, IsTrue, IfOk, IfSome, IfNone};
+ghost use Rattle.generalise_core.specs.Words.{Request, Differ, IsNothing, Spells};
 ghost use Rattle.generalise_core.specs.Asked.{request};
 
-use agg_base::Words;
+use crate::draft::read_said;
+use agg_base::{NoMemory, Words};
+use std::alloc::Global;
 
 /// The files that the words name.
 #[derive(Drop)]
@@ -14,14 +16,8 @@ pub struct Asked<'a> {
     pub certificate: &'a str,
 }
 
-fn is_name(word: &str) -> bool
-    ensures { IsTrue result ↔ IsName word.now }
-{
-    let bytes = word.as_bytes();
-    !bytes.is_empty() && bytes[0] != b'-'
-}
-
-fn differ(first: &str, second: &str, third: &str, fourth: &str) -> bool
+/// Whether no two of the names are equal.
+pub(crate) fn differ(first: &str, second: &str, third: &str, fourth: &str) -> bool
     ensures { IsTrue result ↔ Differ first.now second.now third.now fourth.now }
 {
     first != second
@@ -32,31 +28,24 @@ fn differ(first: &str, second: &str, third: &str, fourth: &str) -> bool
         && third != fourth
 }
 
-/// What the words ask for.
-pub fn read_words(words: &Words) -> Option<Asked<'_>>
-    ensures found { IfSome result (λ a. Spells words.now (request a)) }
-    ensures none { IfNone result ((r : Request) → ¬ (Spells words.now r)) }
+/// Whether a number is 0, in one to seven digits.
+pub(crate) fn is_nothing(value: &str) -> bool
+    ensures { IsTrue result ↔ IsNothing value.now }
 {
-    if words.count() != 8 || words.word(0) != "generalise" || words.word(1) != "grid" {
-        return None;
+    let bytes = value.as_bytes();
+    !bytes.is_empty() && bytes.len() <= 7 && bytes.iter().all(|digit| *digit == b'0')
+}
+
+/// What the words ask for. The command stands first, and the option anywhere behind it; its value has one to seven digits.
+pub fn read_words(alloc: Global, words: &Words) -> Result<Option<Asked<'_>>, NoMemory>
+    ensures found { IfOk result (λ r. IfSome r (λ a. Spells words.now (request a))) }
+    ensures none { IfOk result (λ r. IfNone r ((r : Request) → ¬ (Spells words.now r))) }
+{
+    if words.count() == 0 || words.word(0) != "generalise" {
+        return Ok(None);
     }
-    if words.word(6) != "--splits" || words.word(7) != "0" {
-        return None;
-    }
-    let map = words.word(2);
-    let table = words.word(3);
-    let out = words.word(4);
-    let certificate = words.word(5);
-    if !is_name(map) || !is_name(table) || !is_name(out) || !is_name(certificate) {
-        return None;
-    }
-    if !differ(map, table, out, certificate) {
-        return None;
-    }
-    Some(Asked {
-        map,
-        table,
-        out,
-        certificate,
-    })
+    let Some(said) = read_said(alloc, words)? else {
+        return Ok(None);
+    };
+    Ok(said.asked())
 }

@@ -5,4 +5,4 @@ use Rattle.generalise_core.specs.Certificates.{escape_line}
 use Rattle.generalise_core.proofs.certificate.push_escapes.Given as goal
 
 abbrev pub invariant-loop-class : goal.invariant-loop-class
-invariant-loop-class l = l.out.items ≡ l.initial.out.items ++ ended (map (escape_line l.areas) (range_with_len 0 l.class))
+invariant-loop-class l = l.out.items ≡ l.initial.out.items ++ ended (map (escape_line l.area l.part) (range_with_len 0 l.class))

@@ -14,15 +14,15 @@ returns c =
     let counted : c.region_count-regions.result ≡ regions = c.region_count-regions.ensures in
     let status = kind_word i.kind ∷ [] in
     let areas = codes "areas " ++ decimal i.areas in
-    let passed = codes "passed 0" in
+    let passed = codes "passed " ++ decimal i.passed in
     let many = codes "regions " ++ decimal regions in
     let cost = codes "cost " ++ number_or_dash i.cost in
     let bound = codes "bound " ++ number_or_dash i.bound in
     let splits = codes "splits 0" in
     let first : c.push_line.new.out.items ≡ [] ++ ended status = rw (c.in_ok-push_line.ensures, c.word_of.ensures, c.new-out.ensures.items) in
     let second = next_line [] _ _ status areas first c.in_ok-push_count.ensures in
-    let third = next_line [] _ _ (status ++ areas ∷ []) passed second c.in_ok-push_line-2.ensures in
-    let fourth = next_line [] _ _ (status ++ areas ∷ [] ++ passed ∷ []) many third (c.in_ok-push_count-2.ensures ∙ ap (λ n. c.push_line-2.new.out.items ++ ended ((codes "regions " ++ decimal n) ∷ [])) counted) in
+    let third = next_line [] _ _ (status ++ areas ∷ []) passed second c.in_ok-push_count-2.ensures in
+    let fourth = next_line [] _ _ (status ++ areas ∷ [] ++ passed ∷ []) many third (c.in_ok-push_count-3.ensures ∙ ap (λ n. c.push_count-2.new.out.items ++ ended ((codes "regions " ++ decimal n) ∷ [])) counted) in
     let fifth = next_line [] _ _ (status ++ areas ∷ [] ++ passed ∷ [] ++ many ∷ []) cost fourth c.in_ok-push_number_or_dash.ensures in
     let sixth = next_line [] _ _ (status ++ areas ∷ [] ++ passed ∷ [] ++ many ∷ [] ++ cost ∷ []) bound fifth c.in_ok-push_number_or_dash-2.ensures in
-    rw (← view) (next_line [] _ _ (status ++ areas ∷ [] ++ passed ∷ [] ++ many ∷ [] ++ cost ∷ [] ++ bound ∷ []) splits sixth c.in_ok-push_line-3.ensures)
+    rw (← view) (next_line [] _ _ (status ++ areas ∷ [] ++ passed ∷ [] ++ many ∷ [] ++ cost ∷ [] ++ bound ∷ []) splits sixth c.in_ok-push_line-2.ensures)

@@ -2,20 +2,17 @@ use Rattle.std.proofs.Common.{rules, FitsSigned, ap, ◌∙◌, Some, subst, pos
 use Rattle.std.specs.Int.{w128}
 use Rattle.std.proofs.lemmas.Int.{to_z-of_z}
 use Rattle.generalise_core.specs.Answers.{IsKindOf}
-use Rattle.generalise_core.proofs.Plannings.{feasible_region, states_grouping, cost_is_least}
+use Rattle.generalise_core.proofs.Plannings.{states_grouping, cost_is_least}
 use Rattle.generalise_core.proofs.plan.grouped.Goals as goal
 
 pub kind_of-requires : goal.kind_of-requires
 kind_of-requires c =
-    let p = c.args.problem.now in
     let fits : FitsSigned w128 c.cost-cost.result = record { sfits = c.cost-cost.type_inv } in
-    let feasible = feasible_region p c.args.class c.rules.ensures c.requires.joined c.requires.chosen c.in_ok-grouping.grouping c.in_ok-grouping.ensures in
-    simp to_z-of_z (cost_is_least p c.in_ok-grouping.grouping c.cost-cost.result c.rules.ensures feasible c.cost-cost.ensures)
+    simp to_z-of_z (cost_is_least c.args.problem.now c.args.grouping c.cost-cost.result c.rules.ensures c.requires.feasible c.cost-cost.ensures)
 
-pub returns : goal.returns
-returns c =
-    let p = c.args.problem.now in
+pub returns-clause-states : goal.returns-clause-states
+returns-clause-states c =
     let fits : FitsSigned w128 c.cost-cost.result = record { sfits = c.cost-cost.type_inv } in
-    states_grouping p c.args.class _ c.rules.ensures c.requires.joined c.requires.chosen c.areas.ensures c.in_ok-grouping.ensures
+    states_grouping c.args.problem.now _ c.rules.ensures c.requires.feasible c.requires.numbered c.requires.one_each c.areas.ensures
     (ap Some (to_z-of_z w128 c.cost-cost.result fits ∙ c.cost-cost.ensures)) (search rules)
     (subst (λ x. IsKindOf (pos 0) x c.kind_of.result) (to_z-of_z w128 c.cost-cost.result fits ∙ c.cost-cost.ensures) c.kind_of.ensures) c.leaf_for.ensures

@@ -1,20 +1,17 @@
-use Rattle.std.proofs.Common.{rules, ◌≡◌, codes}
-use Rattle.generalise_core.proofs.WordLists.{eight}
+use Rattle.std.proofs.Common.{rules, tests, ◌≡◌, codes, subst}
+use Rattle.generalise_core.specs.Words.{Request, IsForm, Says, Spells, nothing_said}
+use Rattle.generalise_core.specs.Asked.{request}
+use Rattle.generalise_core.proofs.SaidLemmas.{spelled, behind, one_said, some_weaker, none_weaker}
 use Rattle.generalise_core.proofs.words.read_words.Goals as goal
 
 pub returns-clause-found : goal.returns-clause-found
 returns-clause-found c =
-    let command : c.word.result.now ≡ codes "generalise" = search rules in
-    let format : c.word-else-ne.result.now ≡ codes "grid" = search rules in
-    let option : c.word-2.result.now ≡ codes "--splits" = search rules in
-    let count : c.word-else-ne-3.result.now ≡ codes "0" = search rules in
-    record {
-      words_are = eight c.args.words.now (codes "generalise") (codes "grid") _ _ _ _ (codes "--splits") (codes "0") (search rules)
-          (rw (← command) c.word.ensures) (rw (← format) c.word-else-ne.ensures) c.word-map.ensures c.word-table.ensures c.word-out.ensures c.word-certificate.ensures
-          (rw (← option) c.word-2.ensures) (rw (← count) c.word-else-ne-3.ensures);
-      map = search rules;
-      table = search rules;
-      out = search rules;
-      certificate = search rules;
-      differ = search rules;
-    }
+    let says = rw c.in-Some.is at c.in_ok-said.ensures.found in
+    let command : c.word.result.now ≡ codes "generalise" = search (rules, tests) in
+    some_weaker c.asked.result _ _ (λ a form. spelled c.args.words.now c.word.result.now c.in-Some.said (request a) c.word.ensures command says form) c.asked.ensures.found
+
+pub returns-clause-none : goal.returns-clause-none
+returns-clause-none c =
+    let says = rw c.in-Some.is at c.in_ok-said.ensures.found in
+    none_weaker c.asked.result _ _
+    (λ never r s. never r (subst (λ x. IsForm x r) (one_said nothing_said _ s.said c.in-Some.said (behind c.args.words.now r s) says) s.form)) c.asked.ensures.none

@@ -1,4 +1,0 @@
-pub mod Runs
-pub mod Choices
-pub mod RowLaws
-pub mod Leasts

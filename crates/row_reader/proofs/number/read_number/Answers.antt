@@ -1,5 +1,0 @@
-use Rattle.row_reader.proofs.Numbers.{digits_are_text}
-use Rattle.row_reader.proofs.number.read_number.Goals as goal
-
-pub returns-in_default-clause-none : goal.returns-in_default-clause-none
-returns-in_default-clause-none c = λ n is. c.in_default.ensures.cases.0 (digits_are_text c.args.text.now is.all)

@@ -1,5 +1,0 @@
-pub mod Classes
-pub mod OneText
-pub mod Parts
-pub mod RowMaps
-pub mod TableTexts
