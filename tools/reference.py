@@ -1,0 +1,279 @@
+#!/usr/bin/env python3
+"""A second implementation of `generalise grid MAP TABLE OUT CERT --splits 0`, written apart from the program to compare it with.
+
+It is slow and plain, it proves nothing, and nothing in the program stands on it. `answer(map, table)` gives the exit code, the said text
+and the certificate, or None where nothing is stored.
+"""
+import math
+import re
+
+LETTERS = set(b"abcdefghijklmnopqrstuvwxyzABCDEFGHIJKLMNOPQRSTUVWXYZ")
+JSON_NUMBER = re.compile(rb"-?(0|[1-9][0-9]*)(\.[0-9]+)?([eE][+-]?[0-9]+)?\Z")
+WHOLE = re.compile(rb"-?[0-9]+(\.0+)?\Z")
+FAR = 2147483647
+
+
+class Refused(Exception):
+    pass
+
+
+def lines(text):
+    """The lines without their ends: LF, or CR LF; a last line without LF keeps its CR."""
+    if not text:
+        return []
+    parts = text.split(b"\n")
+    ended = [part[:-1] if part.endswith(b"\r") else part for part in parts[:-1]]
+    return ended + ([parts[-1]] if parts[-1] else [])
+
+
+def blank_words(line):
+    return [word for word in re.split(rb"[ \t]+", line) if word]
+
+
+def cell_value(word):
+    """The value of a cell or of no data; None where the word is none."""
+    if not WHOLE.match(word):
+        return None
+    value = int(word.split(b".")[0])
+    return value if abs(value) <= FAR else None
+
+
+def header_value(name, word):
+    if name in (b"ncols", b"nrows"):
+        if not word.isdigit() or not word.isascii() or not 1 <= int(word) <= 524288:
+            return None
+        return int(word)
+    if name == b"nodata_value":
+        return cell_value(word)
+    if len(word) > 100 or not JSON_NUMBER.match(word) or (name == b"cellsize" and word.startswith(b"-")):
+        return None
+    return word
+
+
+def read_grid(text):
+    """Columns, rows, the value for no data, and the cells from the top row on."""
+    names = (b"ncols", b"nrows", b"xllcorner", b"yllcorner", b"cellsize", b"nodata_value")
+    head, rows = {}, lines(text)
+    at = 0
+    while at < len(rows):
+        words = blank_words(rows[at])
+        if words and words[0][0] not in LETTERS:
+            break
+        if words:
+            name = words[0].lower()
+            if name in (b"xllcenter", b"yllcenter"):
+                raise Refused(f"map Centred {at + 1}")
+            value = header_value(name, words[1]) if name in names and len(words) == 2 and name not in head else None
+            if value is None:
+                raise Refused(f"map Header {at + 1}")
+            head[name] = value
+        at += 1
+    if any(name not in head for name in names[:5]):
+        raise Refused(f"map Header {at + 1}")
+    columns, total = head[b"ncols"], head[b"ncols"] * head[b"nrows"]
+    if total > 524288:
+        raise Refused("map Limit Cells")
+    words = [word for row in rows[at:] for word in re.split(rb"[ \t\r]+", row) if word]
+    cells = []
+    for place, word in enumerate(words[:total]):
+        value = cell_value(word)
+        if value is None:
+            raise Refused(f"map Cell {place // columns} {place % columns}")
+        cells.append(value)
+    if len(words) != total:
+        raise Refused(f"map Count {len(words)}")
+    return columns, head[b"nrows"], head.get(b"nodata_value", -9999), cells
+
+
+def patches_of(columns, rows, nodata, cells):
+    """The patch of each cell, or None, and the number of patches."""
+    patch, count = [None] * len(cells), 0
+    for first, value in enumerate(cells):
+        if value == nodata or patch[first] is not None:
+            continue
+        patch[first], todo = count, [first]
+        while todo:
+            cell = todo.pop()
+            row, column = divmod(cell, columns)
+            near = [cell - 1] * (column > 0) + [cell + 1] * (column + 1 < columns)
+            near += [cell - columns] * (row > 0) + [cell + columns] * (row + 1 < rows)
+            for other in near:
+                if cells[other] == value and patch[other] is None:
+                    patch[other] = count
+                    todo.append(other)
+        count += 1
+    if count > 65536:
+        raise Refused("map Limit Areas")
+    return patch, count
+
+
+def number(word, least, most):
+    if not word.isdigit() or not word.isascii() or len(word) > 31 or not least <= int(word) <= most:
+        return None
+    return int(word)
+
+
+class Table:
+    def __init__(self, text):
+        self.unit, self.border, self.names, self.thresholds, self.rows = None, None, [], [], []
+        seen, all_lines = False, lines(text)
+        for at, line in enumerate(all_lines, 1):
+            if line.startswith(b"#") or not blank_words(line):
+                continue
+            words = blank_words(line)
+            if not seen:
+                if words != [b"classes", b"1"]:
+                    raise Refused(f"table Line {at} Version")
+                seen = True
+                continue
+            self.take(at, line, words)
+        if not seen:
+            raise Refused(f"table Line {len(all_lines) + 1} Version")
+        if not self.names or len(self.rows) != len(self.names):
+            raise Refused(f"table Line {len(all_lines) + 1} End")
+        self.unit = self.unit or (1, 1)
+
+    def take(self, at, line, words):
+        def fault(why):
+            return Refused(f"table Line {at} {why}")
+
+        first, rest = words[0], words[1:]
+        if self.border is None:
+            if first == b"unit" and self.unit is None and len(rest) == 2:
+                factors = [number(word, 1, 100) for word in rest]
+                if None in factors:
+                    raise fault("Number")
+                self.unit = tuple(factors)
+            elif first == b"border" and len(rest) == 1:
+                self.border = number(rest[0], 0, 10000)
+                if self.border is None:
+                    raise fault("Number")
+            else:
+                raise fault("Word")
+        elif first == b"class" and not self.rows:
+            self.take_class(at, line, rest, fault)
+        elif first == b"row" and self.names and len(self.rows) < len(self.names):
+            if len(rest) != len(self.names):
+                raise fault("Count")
+            distances = [number(word, 0, 10000) for word in rest]
+            if None in distances:
+                raise fault("Number")
+            if distances[len(self.rows)] != 0:
+                raise fault("Diagonal")
+            self.rows.append(distances)
+        else:
+            raise fault("Word")
+
+    def take_class(self, at, line, rest, fault):
+        if len(rest) < 2:
+            raise fault("Word")
+        if len(self.names) == 64:
+            raise Refused(f"table Limit {at}")
+        threshold = number(rest[0], 0, 10**30)
+        if threshold is None:
+            raise fault("Number")
+        name = re.match(rb"[ \t]*[^ \t]+[ \t]+[^ \t]+[ \t]+(.*)\Z", line, re.S).group(1).rstrip(b" \t")
+        try:
+            name.decode("utf-8")
+        except UnicodeDecodeError:
+            raise fault("Name")
+        if not 1 <= len(name) <= 100 or any(byte < 32 for byte in name):
+            raise fault("Name")
+        if name in self.names:
+            raise Refused(f"table RepeatedClass {at}")
+        self.names.append(name)
+        self.thresholds.append(threshold)
+
+
+class Problem:
+    def __init__(self, grid, table):
+        columns, rows, nodata, cells = grid
+        patch, self.areas = patches_of(columns, rows, nodata, cells)
+        self.table, self.weight, self.own, self.links = table, [0] * self.areas, [None] * self.areas, {}
+        self.columns, self.cells, self.patch = columns, cells, patch
+
+    def make(self):
+        columns, cells, patch = self.columns, self.cells, self.patch
+        wide, high = self.table.unit
+        for place, area in enumerate(patch):
+            if area is None:
+                continue
+            self.weight[area] += 2 * wide * high
+            self.own[area] = str(cells[place]).encode()
+            beside = patch[place + 1] if (place + 1) % columns else None
+            below = patch[place + columns] if place + columns < len(cells) else None
+            for other, stretch in ((beside, high), (below, wide)):
+                if other is not None and other != area:
+                    pair = (min(area, other), max(area, other))
+                    self.links[pair] = self.links.get(pair, 0) + math.isqrt(65536 * stretch * stretch)
+        for area in range(self.areas):
+            if self.own[area] not in self.table.names:
+                raise Refused(f"classes UnknownClass {area}")
+            self.own[area] = self.table.names.index(self.own[area])
+
+    def parts(self):
+        part = list(range(self.areas))
+
+        def top(area):
+            while part[area] != area:
+                area = part[area]
+            return area
+
+        for a, b in self.links:
+            low, high = sorted((top(a), top(b)))
+            part[high] = low
+        return [top(area) for area in range(self.areas)]
+
+
+def choose(problem, part, members):
+    """The open class of least recolouring, the least at a tie; None where none is open."""
+    weight = sum(problem.weight[area] for area in members)
+    owned = {problem.own[area] for area in members}
+    best = None
+    for k in range(len(problem.table.names)):
+        if k in owned and problem.table.thresholds[k] <= weight:
+            cost = sum(problem.weight[area] * problem.table.rows[problem.own[area]][k] for area in members)
+            if best is None or cost < best[0]:
+                best = (cost, k)
+    return best
+
+
+def certificate_of(status, cost, bound, areas, regions, region_of, leaf):
+    head = ["aggregation 1", f"status {status}", f"cost {cost}", f"bound {bound}", f"areas {areas}", f"regions {len(regions)}"]
+    rest = [f"r {k}" for k in regions] + [f"a {r}" for r in region_of]
+    return "\n".join(head + rest + leaf + ["end", ""]).encode()
+
+
+def solve(problem):
+    part = problem.parts()
+    members = {}
+    for area, least in enumerate(part):
+        members.setdefault(least, []).append(area)
+    classes, regions, cost = len(problem.table.names), [], 0
+    for least in sorted(members):
+        best = choose(problem, part, members[least])
+        if best is None:
+            own = members[least]
+            leaf = [f"v {classes}"]
+            leaf += [f"e 1 {least} {k} {len(own)} " + " ".join(map(str, own)) for k in range(classes)]
+            return 4, ("none", "-", "-"), certificate_of("none", "-", "-", problem.areas, [], [], leaf), 0
+        cost += best[0]
+        regions.append(best[1])
+    number_of = {least: r for r, least in enumerate(sorted(members))}
+    status = "optimal" if cost == 0 else "within"
+    leaf = ["f"] if classes == 1 or problem.areas == 0 else ["c 1 0"]
+    text = certificate_of(status, cost, 0, problem.areas, regions, [number_of[least] for least in part], leaf)
+    return (0 if cost == 0 else 3), (status, cost, 0), text, len(regions)
+
+
+def answer(map_text, table_text):
+    try:
+        grid = read_grid(map_text)
+        problem = Problem(grid, None)
+        problem.table = Table(table_text)
+        problem.make()
+    except Refused as refusal:
+        return 65, f"refused: {refusal}\n".encode(), None
+    code, (status, cost, bound), text, regions = solve(problem)
+    report = f"{status}\nareas {problem.areas}\npassed 0\nregions {regions}\ncost {cost}\nbound {bound}\nsplits 0\n"
+    return code, report.encode(), text
