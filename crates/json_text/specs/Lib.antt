@@ -1,0 +1,5 @@
+pub mod Numbers
+pub mod NumberTest
+pub mod Tree
+pub mod Strings
+pub mod Spelling
