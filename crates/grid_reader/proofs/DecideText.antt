@@ -13,9 +13,10 @@ use Rattle.std.proofs.lemmas.Str.Parse.{IsNumeralModel, numerals_by_value}
 use Rattle.agg_base.specs.Numbers.{SpellsNumber, SpellsWhole, zeros_text}
 use Rattle.agg_base.proofs.PointCuts.{is_point, is_zero, front_of, front_is, when_kept, cut_parts}
 use Rattle.agg_base.proofs.WholeText.{behind_minus, digits_behind, spells, number_has_no_point, one_whole}
-use Rattle.grid_reader.specs.Numbers.{IsCount, SpellsCell, IsCornerText, IsSizeText, is_json_number}
+use Rattle.grid_reader.specs.Numbers.{IsCount, SpellsCell, IsCornerText, IsSizeText}
+use Rattle.json_text.specs.NumberTest.{is_json_number}
 use Rattle.grid_reader.proofs.LabelLemmas.{by_cases_of, false_true}
-use Rattle.grid_reader.proofs.JsonGrammar.{json_to, json_from}
+use Rattle.json_text.proofs.NumberLemmas.{json_to, json_from}
 use Rattle.grid_reader.proofs.WordLemmas.{first_at, none_at}
 
 own : IsNumeralModel (λ ds. list_all is_ascii_digit ds ≡ true) (digits_value 10)

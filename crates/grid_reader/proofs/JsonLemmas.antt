@@ -6,7 +6,7 @@ use Rattle.std.specs.Char.{is_ascii_digit}
 use Rattle.std.proofs.lemmas.Bool.Decides.{nat_tests, Decides-eqb}
 use Rattle.std.proofs.lemmas.Str.{IsUtf8-from_ascii}
 use Rattle.std.proofs.Math.Seq.{drop-length}
-use Rattle.grid_reader.specs.Numbers.{run, unsigned, is_digits, is_power, is_fraction, is_rest, is_bare_number, is_json_number}
+use Rattle.json_text.specs.NumberTest.{run, unsigned, is_digits, is_power, is_fraction, is_rest, is_bare_number, is_json_number}
 use Rattle.grid_reader.proofs.LabelLemmas.{by_cases_of}
 
 pub both : (a b : Bool) → (a && b) ≡ true → (a ≡ true) × (b ≡ true)

@@ -6,7 +6,6 @@ pub mod MemberLemmas
 pub mod Digits
 pub mod WordLemmas
 pub mod JsonLemmas
-pub mod JsonGrammar
 pub mod CellLemmas
 pub mod BoundLemmas
 pub mod BodyLemmas
@@ -22,3 +21,4 @@ pub mod GridOrLemmas
 pub mod DecideText
 pub mod DecideHeader
 pub mod DecideBody
+pub mod FrameLemmas

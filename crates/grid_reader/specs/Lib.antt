@@ -6,7 +6,6 @@ pub mod Areas
 pub mod Members
 pub mod Faults
 pub mod Words
-pub mod JsonNumbers
 pub mod Numbers
 pub mod Header
 pub mod Reading
@@ -14,3 +13,4 @@ pub mod Cells
 pub mod Whole
 pub mod Body
 pub mod GridTexts
+pub mod Frames

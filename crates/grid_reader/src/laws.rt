@@ -1,4 +1,5 @@
 // What holds of all texts.
+ghost use Rattle.grid_reader.specs.Frames.{FrameLaw};
 ghost use Rattle.grid_reader.specs.GridTexts.{OneGrid, OneFault, GridWithoutFault, GridOrFault};
 
 /// A text spells at most one grid.
@@ -19,4 +20,9 @@ pub fn grid_without_fault()
 /// Each text spells a grid or has a first fault.
 pub fn grid_or_fault()
     ensures { GridOrFault }
+{}
+
+/// The texts of a grid's frame are numbers by the grammar of RFC 8259.
+pub fn frame_law()
+    ensures { FrameLaw }
 {}

@@ -19,7 +19,7 @@ mod whole;
 mod words;
 
 pub use fault::GridFault;
-pub use laws::{grid_or_fault, grid_without_fault, one_fault, one_grid};
+pub use laws::{frame_law, grid_or_fault, grid_without_fault, one_fault, one_grid};
 pub use reader::read;
 
 #[cfg(test)]

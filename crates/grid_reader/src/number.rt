@@ -1,13 +1,11 @@
 // Numbers that a grid spells.
-ghost use Rattle.std.specs.Prelude.{◌≡◌, ◌≤◌, ◌<◌, ◌==◌, not, length, slice_index, position, if◌then◌else◌, drop, ℕ, ℤ, IfSome, IfNone};
-ghost use Rattle.std.specs.List.{position_or_len};
-ghost use Rattle.std.specs.Char.{is_ascii_digit};
+ghost use Rattle.std.specs.Prelude.{◌≡◌, slice_index, ℕ, ℤ, IfSome, IfNone};
 ghost use Rattle.std.specs.Bool.{Decides};
 ghost use Rattle.std.specs.Str.Parse.{AllDigits};
-ghost use Rattle.grid_reader.specs.Numbers.{IsCount, SpellsCell, IsCornerText, IsSizeText, run, unsigned, is_digits, is_power, is_fraction, is_rest, is_bare_number};
-ghost use Rattle.grid_reader.specs.JsonNumbers.{IsJsonNumber};
+ghost use Rattle.grid_reader.specs.Numbers.{IsCount, SpellsCell, IsCornerText, IsSizeText};
 
 use agg_base::{Whole, read_whole};
+use json_text::is_number;
 use std::str;
 
 // The number from 1 to 524,288 that digits spell.
@@ -62,7 +60,7 @@ pub(crate) fn read_corner(text: &[u8]) -> Option<&str>
     if text.len() > 100 {
         return None;
     }
-    if !is_json_number(text) {
+    if !is_number(text) {
         return None;
     }
     let Ok(number) = str::from_utf8(text) else {
@@ -80,98 +78,6 @@ pub(crate) fn read_size(text: &[u8]) -> Option<&str>
         return None;
     }
     read_corner(text)
-}
-
-// Whether a text is a number of JSON.
-fn is_json_number(text: &[u8]) -> bool
-    ensures { Decides result (IsJsonNumber text.now) }
-{
-    is_bare_number(without_minus(text))
-}
-
-// The text behind a leading minus.
-fn without_minus(text: &[u8]) -> &[u8]
-    ensures { result.now ≡ (if slice_index text.now 0 == 45 then drop 1 text.now else text.now) }
-{
-    match text {
-        [b'-', rest @ ..] => rest,
-        _ => text,
-    }
-}
-
-// Digits without a needless zero in front, and what may stand behind them.
-fn is_bare_number(text: &[u8]) -> bool
-    ensures { result ≡ is_bare_number text.now }
-{
-    let digits = digits_end(text);
-    let single = digits == 1 || first_byte(text) != b'0';
-    digits > 0 && single && is_rest(&text[digits..])
-}
-
-// What may stand behind the whole part of a number.
-fn is_rest(text: &[u8]) -> bool
-    ensures { result ≡ is_rest text.now }
-{
-    match text {
-        [b'.', rest @ ..] => is_fraction(rest),
-        _ => is_power(text),
-    }
-}
-
-// Digits, and then a power or nothing.
-fn is_fraction(text: &[u8]) -> bool
-    ensures { result ≡ is_fraction text.now }
-{
-    let digits = digits_end(text);
-    digits > 0 && is_power(&text[digits..])
-}
-
-// Nothing, or a letter e, a sign or none, and digits.
-fn is_power(text: &[u8]) -> bool
-    ensures { result ≡ is_power text.now }
-{
-    match text {
-        [] => true,
-        [b'e' | b'E', rest @ ..] => is_digits(unsigned(rest)),
-        _ => false,
-    }
-}
-
-// The text behind a plus or a minus.
-fn unsigned(text: &[u8]) -> &[u8]
-    ensures { result.now ≡ unsigned text.now }
-{
-    match text {
-        [b'+' | b'-', rest @ ..] => rest,
-        _ => text,
-    }
-}
-
-// Digits alone, one or more.
-fn is_digits(text: &[u8]) -> bool
-    ensures { result ≡ is_digits text.now }
-{
-    let digits = digits_end(text);
-    digits > 0 && digits == text.len()
-}
-
-// How many digits a text begins with.
-fn digits_end(text: &[u8]) -> usize
-    ensures place { result ≡ run text.now }
-    ensures bound { result ≤ length text.now }
-{
-    match first_other(text) {
-        Some(at) => at,
-        None => text.len(),
-    }
-}
-
-// Where the first byte stands that is no digit.
-fn first_other(text: &[u8]) -> Option<usize>
-    ensures place { result ≡ position (λ byte. not (is_ascii_digit byte)) text.now }
-    ensures bound { IfSome result (λ at. at < length text.now) }
-{
-    text.iter().position(|byte| !byte.is_ascii_digit())
 }
 
 // The first byte, or 0 where there is none.

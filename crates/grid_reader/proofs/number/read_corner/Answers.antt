@@ -1,5 +1,5 @@
 use Rattle.grid_reader.proofs.JsonLemmas.{json_is_text}
-use Rattle.grid_reader.proofs.JsonGrammar.{json_from}
+use Rattle.json_text.proofs.NumberLemmas.{json_from}
 use Rattle.grid_reader.proofs.number.read_corner.Goals as goal
 
 pub returns-in_default-clause-none : goal.returns-in_default-clause-none
