@@ -1,0 +1,4 @@
+pub mod CountLemmas
+pub mod GatherLemmas
+pub mod SweepLemmas
+pub mod PointLemmas

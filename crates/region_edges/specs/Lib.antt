@@ -1,0 +1,3 @@
+pub mod RegionEdges
+pub mod Gathering
+pub mod PointSets
