@@ -1,0 +1,9 @@
+pub mod Sizes
+pub mod SideLemmas
+pub mod StepLemmas
+pub mod MarkLemmas
+pub mod SpokeLemmas
+pub mod ChoiceLemmas
+pub mod CourseLemmas
+pub mod RestLemmas
+pub mod DrawLemmas

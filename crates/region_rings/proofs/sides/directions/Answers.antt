@@ -1,0 +1,5 @@
+use Rattle.region_rings.proofs.SideLemmas.{sides_alike}
+use Rattle.region_rings.proofs.sides.directions.Goals as goal
+
+pub returns : goal.returns
+returns c = sides_alike _ c.args.edges.now c.in_ok-rows.ensures c.args.edges.now _ c.in_ok-sides.ensures

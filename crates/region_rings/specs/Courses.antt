@@ -1,0 +1,89 @@
+-- How a walk along edges goes on.
+use Rattle.std.specs.Prelude.{◌≡◌, ℕ, ◌+◌, ◌-◌, ◌%◌, ◌<◌, Bool, true, false, if◌then◌else◌, ◌&&◌, nat_lt, List, [], ◌∷◌, ◌++◌, map, flat_map, length, count_by, take, drop, All, slice_set, slice_index, slice_index_or}
+use Rattle.plane_edge.specs.Edges.{is_same_point}
+use Rattle.plane_edge.specs.Line.{is_end_of}
+use Rattle.plane_edge.specs.Rings.{ends_of, path_from, steps_of_ring}
+use Rattle.plane_edge.specs.declared.edge.Edge.{Edge}
+use Rattle.plane_edge.specs.declared.point.Point.{Point}
+use Rattle.region_rings.specs.declared.spoke.Spoke.{Spoke}
+use Rattle.region_rings.specs.RegionRings.{VisitsNoneTwice, IsRing, step_count}
+use Rattle.region_rings.specs.Spokes.{IsEndAt, IsFirstAt}
+
+-- which edges are walked, the path since the last ring was cut off, where the path came to which point, and the rings
+pub record Course : Type 0 where
+  pub walked : List Bool
+  pub path : List Point
+  pub places : List ℕ
+  pub rings : List (List Point)
+
+-- the edge of that number is walked
+abbrev pub along : ℕ → Course → Course
+along edge w = record w { walked = slice_set w.walked edge true }
+
+-- the path begins anew, at the point of that number
+abbrev pub beginning : Point → ℕ → Course → Course
+beginning p number w = record w { path = p ∷ []; places = slice_set w.places number 0 }
+
+-- the path goes on to the point of that number
+abbrev pub onto : Point → ℕ → Course → Course
+onto p number w = record w { path = w.path ++ p ∷ []; places = slice_set w.places number (length w.path) }
+
+-- the path since that place is cut off as a ring
+abbrev pub cut_at : ℕ → Course → Course
+cut_at place w = record w { path = take (place + 1) w.path; rings = w.rings ++ drop place w.path ∷ [] }
+
+-- the point of that number is on the path, where it was noted
+abbrev pub is_visited : Point → ℕ → Course → Bool
+is_visited p number w =
+    nat_lt (slice_index w.places number) (length w.path) && is_same_point (slice_index_or w.path (slice_index w.places number) p) p
+
+-- where the path has been at the point a ring is cut off, else the path goes on to it
+abbrev pub reaching : Point → ℕ → Course → Course
+reaching p number w = (if is_visited p number w then cut_at (slice_index w.places number) w else onto p number w)
+
+-- the edges that are not walked
+abbrev pub unwalked : List Edge → List Bool → List Edge
+unwalked [] marks = []
+unwalked (e ∷ es) [] = e ∷ unwalked es []
+unwalked (e ∷ es) (true ∷ marks) = unwalked es marks
+unwalked (e ∷ es) (false ∷ marks) = e ∷ unwalked es marks
+
+-- the edge of that number ends at the point and is not walked
+pub record IsOpenAt (edges : List Edge) (w : Course) (i : ℕ) (p : Point) : Type 0 where
+  pub end : IsEndAt edges i p
+  pub left : (d : Bool) → slice_index_or w.walked i d ≡ false
+
+-- no such edge is left at the point
+abbrev pub IsNoneOpenAt : List Edge → Course → Point → Type 0
+IsNoneOpenAt edges w p = (i : ℕ) (d : Bool) → IsEndAt edges i p → slice_index_or w.walked i d ≡ true
+
+-- the steps from each point of the path to the next
+abbrev pub steps_of_path : List Point → List (Point × Point)
+steps_of_path [] = []
+steps_of_path (p ∷ ps) = path_from p ps
+
+-- 1 where the points are the same, else 0
+abbrev pub once : Point → Point → ℕ
+once p q = (if is_same_point p q then 1 else 0)
+
+-- a walk from `start` that stands at `at`. Each edge is a step of a ring, a step of the path or not walked, and only one of these; each point is an end of an even number of
+-- the edges not walked, where `start` and `at` count one more each
+pub record IsUnderway (edges : List Edge) (spokes : List Spoke) (w : Course) (start at : Point) : Type 0 where
+  pub marks : length w.walked ≡ length edges
+  pub room : length w.places ≡ length spokes
+  pub rings : All IsRing w.rings
+  pub tally : (s : Point × Point) → step_count s (flat_map steps_of_ring w.rings) + (step_count s (steps_of_path w.path) + step_count s (map ends_of (unwalked edges w.walked))) ≡ step_count s (map ends_of edges)
+  pub even : (p : Point) → (count_by (λ e. is_end_of e p) (unwalked edges w.walked) + (once start p + once at p)) % 2 ≡ 0
+  pub simple : VisitsNoneTwice w.path
+  pub begun : 0 < length w.path
+  pub from : (d : Point) → slice_index_or w.path 0 d ≡ start
+  pub upto : (d : Point) → slice_index_or w.path (length w.path - 1) d ≡ at
+  pub placed : (k n : ℕ) (d : Point) → k < length w.path → IsFirstAt spokes (slice_index_or w.path k d) n → slice_index w.places n ≡ k
+
+-- between two walks: each edge is a step of a ring or not walked, and only one of these
+pub record IsAtRest (edges : List Edge) (spokes : List Spoke) (w : Course) : Type 0 where
+  pub marks : length w.walked ≡ length edges
+  pub room : length w.places ≡ length spokes
+  pub rings : All IsRing w.rings
+  pub tally : (s : Point × Point) → step_count s (flat_map steps_of_ring w.rings) + step_count s (map ends_of (unwalked edges w.walked)) ≡ step_count s (map ends_of edges)
+  pub even : (p : Point) → count_by (λ e. is_end_of e p) (unwalked edges w.walked) % 2 ≡ 0
