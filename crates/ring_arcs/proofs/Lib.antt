@@ -1,0 +1,15 @@
+pub mod Points
+pub mod Steps
+pub mod Counts
+pub mod ChainLemmas
+pub mod WayLemmas
+pub mod StoreLemmas
+pub mod NodeLemmas
+pub mod LoopLemmas
+pub mod WalkLemmas
+pub mod RoundLemmas
+pub mod CutLemmas
+pub mod TurnLemmas
+pub mod SortLemmas
+pub mod GatherLemmas
+pub mod NumberLemmas

@@ -1,0 +1,12 @@
+use Rattle.std.proofs.Common.{rules}
+use Rattle.std.proofs.lemmas.List.Sorted.{IsPartitionPoint-from_clause}
+use Rattle.plane_edge.specs.Order.{is_below}
+use Rattle.ring_arcs.proofs.NodeLemmas.{parted_count, parted_before}
+use Rattle.ring_arcs.proofs.nodes.ways_before.Goals as goal
+
+pub returns : goal.returns
+returns c =
+    let p = c.args.point.now in
+    let parted = parted_before c.args.ways.now p c.requires in
+    parted_count (λ w. is_below w.0 p) c.args.ways.now c.partition_point.result c.partition_point.ensures.bound
+    (IsPartitionPoint-from_clause (λ w. is_below w.0 p) _ _ c.partition_point.ensures.partitioned parted (λ a r q k. search rules))

@@ -1,0 +1,9 @@
+use Rattle.std.proofs.Common.{◌≡◌, take, map, All}
+use Rattle.ring_arcs.specs.RingArcs.{lists_of, arc_at, IsIndex}
+use Rattle.ring_arcs.proofs.numbers.indexes_of_chains.Given as goal
+
+abbrev pub invariant-loop-chain : goal.invariant-loop-chain
+invariant-loop-chain l = record {
+  in_range : All (IsIndex (lists_of l.arcs)) l.indexes.items;
+  told : map (arc_at (lists_of l.arcs)) l.indexes.items ≡ lists_of (take l.chain-index l.chains);
+}

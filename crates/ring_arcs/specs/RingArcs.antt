@@ -1,0 +1,84 @@
+-- Arcs, which store each step of the rings once, and rings told as lists of arcs.
+use Rattle.std.specs.Prelude.{◌≡◌, ◌+◌, ◌-◌, ◌<◌, ◌≤◌, ℕ, ℤ, pos, negsuc, neg_ℤ, ◌≤ℤ◌, ◌<ℤ◌, Bool, ◌&&◌, Option, Some, List, [], ◌∷◌, ◌++◌, length, take, map, reverse, flat_map, get_or, count_by, All, Contains, slice_get, Vec}
+use Rattle.std.specs.List.{AllZip}
+use Rattle.std.specs.declared.alloc.Global.{Global}
+use Rattle.plane_edge.specs.Edges.{is_same_point}
+use Rattle.plane_edge.specs.Rings.{path_from}
+use Rattle.plane_edge.specs.declared.point.Point.{Point}
+use Rattle.ring_arcs.specs.Rings.{steps_of_rings}
+
+-- the lists that vectors hold
+abbrev pub lists_of : {X : Type 0} → List (Vec X Global) → List (List X)
+lists_of vs = map (λ v. v.items) vs
+
+-- the steps of an arc: from each of its points to the next
+abbrev pub steps_of_arc : List Point → List (Point × Point)
+steps_of_arc [] = []
+steps_of_arc (p ∷ ps) = path_from p ps
+
+-- the steps of the arcs, arc by arc
+abbrev pub steps_of_arcs : List (List Point) → List (Point × Point)
+steps_of_arcs arcs = flat_map steps_of_arc arcs
+
+-- the steps join the same points
+abbrev pub is_same_step : Point × Point → Point × Point → Bool
+is_same_step d e = is_same_point d.0 e.0 && is_same_point d.1 e.1
+
+-- how often the step stands among the steps
+abbrev pub times : Point × Point → List (Point × Point) → ℕ
+times d steps = count_by (λ e. is_same_step d e) steps
+
+-- the arcs store the steps of the rings: an arc has two points or more and no point twice in a row; a step of a ring stands in all arcs together just once, and any other step never
+pub record AreArcsOf (rings arcs : List (List Point)) : Type 0 where
+  pub long : All (λ arc. 2 ≤ length arc) arcs
+  pub stepping : All (λ arc. length (steps_of_arc arc) + 1 ≡ length arc) arcs
+  pub once : (d : Point × Point) → Contains (steps_of_rings rings) d → times d (steps_of_arcs arcs) ≡ 1
+  pub never : (d : Point × Point) → ¬ Contains (steps_of_rings rings) d → times d (steps_of_arcs arcs) ≡ 0
+
+-- the number tells an arc: i and -i - 1 both tell arc i
+pub record IsIndex (arcs : List (List Point)) (index : ℤ) : Type 0 where
+  pub from_last : neg_ℤ (pos (length arcs)) ≤ℤ index
+  pub to_last : index <ℤ pos (length arcs)
+
+-- the arc that the number tells: by i arc i, by -i - 1, which is `negsuc i`, arc i backwards
+abbrev pub arc_at : List (List Point) → ℤ → List Point
+arc_at arcs (pos i) = get_or arcs i []
+arc_at arcs (negsuc i) = reverse (get_or arcs i [])
+
+-- the path without its last point
+abbrev pub without_last : List Point → List Point
+without_last path = take (length path - 1) path
+
+abbrev pub first_of : List Point → Option Point
+first_of path = slice_get path 0
+
+abbrev pub last_of : List Point → Option Point
+last_of path = slice_get path (length path - 1)
+
+-- the first path begins where it is told, each further one where the one before ends, and the last one ends where it is told
+abbrev pub AreJoined : Option Point → List (List Point) → Option Point → Type 0
+AreJoined begin [] end = begin ≡ end
+AreJoined begin (path ∷ paths) end = (first_of path ≡ begin) × AreJoined (last_of path) paths end
+
+-- the list has the points of the ring in its direction, from one of them on round: the ring's front is put behind the rest
+pub record IsTurnOf (ring points : List Point) : Type 0 where
+  pub front : List Point
+  pub rest : List Point
+  pub ring_is : ring ≡ front ++ rest
+  pub points_are : points ≡ rest ++ front
+
+-- the paths one after another go round the ring and back to where they begin
+pub record IsWalkRound (ring : List Point) (paths : List (List Point)) : Type 0 where
+  pub begin : Point
+  pub joined : AreJoined (Some begin) paths (Some begin)
+  pub met : IsTurnOf ring (flat_map without_last paths)
+
+-- the indexes tell arcs that go round the ring
+pub record AreIndexesOf (arcs : List (List Point)) (ring : List Point) (indexes : List ℤ) : Type 0 where
+  pub some : 0 < length indexes
+  pub in_range : All (IsIndex arcs) indexes
+  pub walk : IsWalkRound ring (map (arc_at arcs) indexes)
+
+-- one list of indexes for each ring, in the order of the rings
+abbrev pub AreIndexed : List (List Point) → List (List Point) → List (List ℤ) → Type 0
+AreIndexed rings arcs indexes = AllZip (AreIndexesOf arcs) rings indexes
