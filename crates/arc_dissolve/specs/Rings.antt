@@ -1,0 +1,39 @@
+-- Rings that are told by indexes of arcs.
+use Rattle.std.specs.Prelude.{◌<◌, ℤ, pos, ◌+ℤ◌, ◌-ℤ◌, ◌*ℤ◌, Some, List, [], ◌∷◌, ◌++◌, length, map, flat_map, All}
+use Rattle.plane_edge.specs.Rings.{steps_of_ring}
+use Rattle.plane_edge.specs.declared.point.Point.{Point}
+use Rattle.region_rings.specs.RegionRings.{IsRing}
+use Rattle.ring_arcs.specs.RingArcs.{arc_at, without_last, AreJoined, IsIndex}
+
+-- the points of the ring: arc after arc, each without its last point
+abbrev pub told : List (List Point) → List ℤ → List Point
+told arcs ring = flat_map without_last (map (arc_at arcs) ring)
+
+-- each arc begins where the one before ends, and the first where the last ends
+abbrev pub IsClosedWalk : List (List Point) → List ℤ → Type 0
+IsClosedWalk arcs ring = (p : Point) × AreJoined (Some p) (map (arc_at arcs) ring) (Some p)
+
+-- one index or more, each of an arc; the arcs go round, and no point is visited twice
+pub record IsDrawnRing (arcs : List (List Point)) (ring : List ℤ) : Type 0 where
+  pub some : 0 < length ring
+  pub in_range : All (IsIndex arcs) ring
+  pub closed : IsClosedWalk arcs ring
+  pub simple : IsRing (told arcs ring)
+
+-- the steps of the rings, ring by ring
+abbrev pub steps_told : List (List Point) → List (List ℤ) → List (Point × Point)
+steps_told arcs rings = flat_map (λ ring. steps_of_ring (told arcs ring)) rings
+
+-- twice the area of the triangle from (0, 0) to both points and back, above 0 where it goes to the left
+abbrev pub cross : Point → Point → ℤ
+cross p q = p.x *ℤ q.y -ℤ q.x *ℤ p.y
+
+-- the sum along a path that starts at the point and goes from each point of the list to the next
+abbrev pub path_sum : Point → List Point → ℤ
+path_sum p [] = pos 0
+path_sum p (q ∷ qs) = cross p q +ℤ path_sum q qs
+
+-- the sum round the ring, which is twice its area: above 0 where the ring has its inside on its left
+abbrev pub round_sum : List Point → ℤ
+round_sum [] = pos 0
+round_sum (p ∷ ps) = path_sum p (ps ++ p ∷ [])

@@ -1,0 +1,66 @@
+-- Lists put together by their heads.
+use Rattle.std.specs.Prelude.{◌≡◌, ◌≢◌, ℕ, ◌+◌, ◌<◌, Bool, true, false, not, ◌==◌, ℤ, List, [], ◌∷◌, ◌++◌, length, map, filter, flat_map, take, get_or, slice_index, All}
+use Rattle.std.specs.List.Sorted.{IsPermutation}
+
+-- each place has a head, which is its own head
+pub record AreHeads (n : ℕ) (heads : List ℕ) : Type 0 where
+  pub count : length heads ≡ n
+  pub within : (k : ℕ) → k < n → slice_index heads k < n
+  pub settled : (k : ℕ) → k < n → slice_index heads (slice_index heads k) ≡ slice_index heads k
+
+-- one of the rings, which has the head h and is not there itself
+pub record IsBehind (rings : List (List ℤ)) (heads : List ℕ) (h : ℕ) (ring : List ℤ) : Type 0 where
+  pub at : ℕ
+  pub within : at < length rings
+  pub is : ring ≡ get_or rings at []
+  pub head : slice_index heads at ≡ h
+  pub apart : at ≢ h
+
+-- the ring h, which is its own head, and behind it others that have this head
+pub record IsGroup (rings : List (List ℤ)) (heads : List ℕ) (h : ℕ) (group : List (List ℤ)) : Type 0 where
+  pub within : h < length rings
+  pub own : slice_index heads h ≡ h
+  pub rest : List (List ℤ)
+  pub is : group ≡ get_or rings h [] ∷ rest
+  pub behind : All (IsBehind rings heads h) rest
+
+-- all the rings, in such groups
+pub record AreGroups (rings : List (List ℤ)) (heads : List ℕ) (groups : List (List (List ℤ))) : Type 0 where
+  pub same : IsPermutation rings (flat_map (λ group. group) groups)
+  pub each : All (λ group. (h : ℕ) × IsGroup rings heads h group) groups
+
+-- each ring, and whether it is its own head, the first of them having the number k
+abbrev pub marked : ℕ → List (List ℤ) → List ℕ → List (List ℤ × Bool)
+marked k [] heads = []
+marked k (ring ∷ rings) [] = []
+marked k (ring ∷ rings) (head ∷ heads) = (ring, head == k) ∷ marked (k + 1) rings heads
+
+-- those that are their own heads
+abbrev pub fronts : List (List ℤ × Bool) → List (List ℤ)
+fronts marks = map (λ m. m.0) (filter (λ m. m.1) marks)
+
+-- those that are not
+abbrev pub others : List (List ℤ × Bool) → List (List ℤ)
+others marks = map (λ m. m.0) (filter (λ m. not m.1) marks)
+
+-- the slot of a ring that is no head is empty; that of a head has it and rings behind it
+pub record IsSlot (rings : List (List ℤ)) (heads : List ℕ) (k : ℕ) (slot : List (List ℤ)) : Type 0 where
+  pub none : slice_index heads k ≢ k → slot ≡ []
+  pub some : slice_index heads k ≡ k → IsGroup rings heads k slot
+
+-- there is a ring in the slot
+abbrev pub is_filled : List (List ℤ) → Bool
+is_filled [] = false
+is_filled (ring ∷ rings) = true
+
+-- slots of the first n rings, without those that are to stand behind others
+pub record AreFronts (rings : List (List ℤ)) (heads : List ℕ) (n : ℕ) (slots : List (List (List ℤ))) : Type 0 where
+  pub count : length slots ≡ n
+  pub are : flat_map (λ slot. slot) slots ≡ fronts (take n (marked 0 rings heads))
+  pub each : (k : ℕ) → k < n → IsSlot rings heads k (get_or slots k [])
+
+-- slots of all rings, in which of the first n those stand that are to stand behind others
+pub record AreSlots (rings : List (List ℤ)) (heads : List ℕ) (n : ℕ) (slots : List (List (List ℤ))) : Type 0 where
+  pub count : length slots ≡ length rings
+  pub same : IsPermutation (fronts (marked 0 rings heads) ++ others (take n (marked 0 rings heads))) (flat_map (λ slot. slot) slots)
+  pub each : (k : ℕ) → k < length rings → IsSlot rings heads k (get_or slots k [])
