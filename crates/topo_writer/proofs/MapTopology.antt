@@ -1,0 +1,242 @@
+-- The tree of a drawn map spells its areas.
+use Rattle.std.proofs.Common.{◌≡◌, ℕ, suc, ◌+◌, ◌<◌, ◌≤◌, ◌^◌, Bool, true, false, not, List, [], ◌∷◌, ◌++◌, length, map, flat_map, count_by, sum_by, Some, ℤ, pos, ◌+ℤ◌, if◌then◌else◌, All, refl, sym, ap, ap₂, ◌∙◌, subst, arith}
+use Rattle.std.specs.Prelude.{codes}
+use Rattle.std.specs.List.{AllByRecursion, AllZip, filter}
+use Rattle.std.specs.Fmt.{signed_decimal}
+use Rattle.std.proofs.lemmas.Int.{ints}
+use Rattle.std.proofs.lemmas.List.{length-map}
+use Rattle.std.proofs.lemmas.List.Elements.{recursion_from_All}
+use Rattle.std.proofs.lemmas.List.Sums.{sum_by-cons}
+use Rattle.std.proofs.lemmas.Grind.{flat_map-append}
+use Rattle.json_text.specs.Tree.{Json, Str, array, object, member_of}
+use Rattle.plane_edge.specs.Rings.{Outline, ends_of, steps_of_ring, step_count}
+use Rattle.plane_edge.specs.declared.frame.Frame.{Frame}
+use Rattle.plane_edge.specs.declared.frame.Frame.TheVariants.{Plain, Scaled}
+use Rattle.plane_edge.specs.declared.point.Point.{Point}
+use Rattle.ring_arcs.specs.RingArcs.{IsIndex, arc_at}
+use Rattle.topo_reader.specs.Arcs.{is_relative, SpellsFrame, SpellsPosition, SpellPoints, SpellsArc}
+use Rattle.topo_reader.specs.Rings.{joined, SpellsPath, SpellsRing, SpellsPolygon, polygons}
+use Rattle.topo_reader.specs.Topology.{by_text, is_passed, SpellsArea, collection, SpellsTopology}
+use Rattle.arc_dissolve.specs.Drawing.{rings_in, steps_of}
+use Rattle.arc_dissolve.specs.Rings.{told}
+use Rattle.arc_dissolve.specs.Shapes.{Figure, Drawn}
+use Rattle.topo_writer.specs.MapText.{step_to, steps_from, positions_of}
+use Rattle.topo_writer.specs.Drawing.{IsClosedRing, IsWritableClass, IsWritable, IsAreaOf}
+use Rattle.topo_writer.proofs.Numerals.{spells_whole}
+use Rattle.topo_writer.proofs.MapTree.{number, position_tree, arc_tree, ring_tree, polygon_tree, geometry_tree, geometry_trees, collection_of, objects_of, transform_of, tree_of}
+use Rattle.topo_writer.proofs.RingPoints.{path_is, are_joined, ring_steps}
+use Rattle.topo_writer.proofs.TreeText.{AreSmall, small_step, coordinate_fits, index_fits, AreClosed, closed_parts}
+
+-- ---- arcs
+
+abbrev base : Bool → ℤ → ℤ
+base relative z = (if relative then z else pos 0)
+
+position_spelled : (position : ℤ × ℤ) → AreSmall position → SpellsPosition (position_tree position) position.0 position.1
+position_spelled position small = record {
+  first = signed_decimal position.0;
+  second = signed_decimal position.1;
+  more = [];
+  list = refl;
+  x_is = spells_whole position.0 small.0;
+  y_is = spells_whole position.1 small.1;
+}
+
+step_x : (relative : Bool) (before p : Point) → p.x ≡ base relative before.x +ℤ (step_to relative before p).0
+step_x true before p = omega (arith, ints)
+step_x false before p = omega (arith, ints)
+
+step_y : (relative : Bool) (before p : Point) → p.y ≡ base relative before.y +ℤ (step_to relative before p).1
+step_y true before p = omega (arith, ints)
+step_y false before p = omega (arith, ints)
+
+steps_spelled : (relative : Bool) (before : Point) (points : List Point) → SpellPoints relative (base relative before.x) (base relative before.y) (map position_tree (steps_from relative before points)) points
+steps_spelled relative before [] = tt
+steps_spelled relative before (p ∷ ps) =
+    let step = step_to relative before p in (
+      record {
+        dx = step.0;
+        dy = step.1;
+        position = position_spelled step (small_step relative before p);
+        x_is = step_x relative before p;
+        y_is = step_y relative before p;
+      },
+      steps_spelled relative p ps,
+    )
+
+points_spelled : (relative : Bool) (arc : List Point) → SpellPoints relative (pos 0) (pos 0) (map position_tree (positions_of relative arc)) arc
+points_spelled relative [] = tt
+points_spelled relative (p ∷ ps) = (
+  record {
+    dx = p.x;
+    dy = p.y;
+    position = position_spelled (p.x, p.y) (coordinate_fits p.x p.x_in_range, coordinate_fits p.y p.y_in_range);
+    x_is = omega (arith, ints);
+    y_is = omega (arith, ints);
+  },
+  steps_spelled relative p ps,
+)
+
+as_many : (relative : Bool) (before : Point) (points : List Point) → length (steps_from relative before points) ≡ length points
+as_many relative before [] = refl
+as_many relative before (p ∷ ps) = ap suc (as_many relative p ps)
+
+positions_count : (relative : Bool) (arc : List Point) → length (positions_of relative arc) ≡ length arc
+positions_count relative [] = refl
+positions_count relative (p ∷ ps) = ap suc (as_many relative p ps)
+
+arc_spelled : (relative : Bool) (arc : List Point) → 2 ≤ length arc → SpellsArc relative (arc_tree relative arc) arc
+arc_spelled relative arc long = record {
+  positions = map position_tree (positions_of relative arc);
+  list = refl;
+  long = omega (arith, length-map (positions_of relative arc) position_tree, positions_count relative arc);
+  points = points_spelled relative arc;
+}
+
+arcs_spelled : (relative : Bool) (arcs : List (List Point)) → AllByRecursion (λ arc. 2 ≤ length arc) arcs → AllZip (SpellsArc relative) (map (arc_tree relative) arcs) arcs
+arcs_spelled relative [] long = tt
+arcs_spelled relative (arc ∷ arcs) long = (arc_spelled relative arc long.0, arcs_spelled relative arcs long.1)
+
+-- ---- rings
+
+abbrev points_of : List (List Point) → List ℤ → List Point
+points_of arcs indexes = joined (map (arc_at arcs) indexes)
+
+paths_spelled : (arcs : List (List Point)) → length arcs < 2 ^ 64 → (indexes : List ℤ) → AllByRecursion (IsIndex arcs) indexes → AllZip (SpellsPath arcs) (map number indexes) (map (arc_at arcs) indexes)
+paths_spelled arcs few [] is = tt
+paths_spelled arcs few (i ∷ indexes) is = (
+  record {
+    number = signed_decimal i;
+    index = i;
+    is = refl;
+    whole = spells_whole i (index_fits arcs i few is.0);
+    told = path_is arcs i is.0;
+  },
+  paths_spelled arcs few indexes is.1,
+)
+
+ring_spelled : (arcs : List (List Point)) → length arcs < 2 ^ 64 → (indexes : List ℤ) → IsClosedRing arcs indexes → SpellsRing arcs (ring_tree indexes) (points_of arcs indexes)
+ring_spelled arcs few indexes closed = record {
+  indexes = map number indexes;
+  paths = map (arc_at arcs) indexes;
+  begin = closed.closed.0;
+  list = refl;
+  some = omega (arith, closed.some, length-map indexes number);
+  told = paths_spelled arcs few indexes (recursion_from_All (IsIndex arcs) indexes closed.in_range);
+  closed = are_joined _ _ _ closed.closed.1;
+  ring_is = refl;
+}
+
+rings_spelled : (arcs : List (List Point)) → length arcs < 2 ^ 64 → (rings : List (List ℤ)) → AllByRecursion (IsClosedRing arcs) rings → AllZip (SpellsRing arcs) (map ring_tree rings) (map (points_of arcs) rings)
+rings_spelled arcs few [] closed = tt
+rings_spelled arcs few (ring ∷ rings) closed = (ring_spelled arcs few ring closed.0, rings_spelled arcs few rings closed.1)
+
+abbrev AreClosedRings : List (List Point) → List (List ℤ) → Type 0
+AreClosedRings arcs polygon = AllByRecursion (IsClosedRing arcs) polygon
+
+polygons_spelled : (arcs : List (List Point)) → length arcs < 2 ^ 64 → (parts : List (List (List ℤ))) → AllByRecursion (AreClosedRings arcs) parts
+    → AllZip (SpellsPolygon arcs) (map polygon_tree parts) (map (λ polygon. map (points_of arcs) polygon) parts)
+polygons_spelled arcs few [] closed = tt
+polygons_spelled arcs few (polygon ∷ parts) closed = (
+  record {
+    parts = map ring_tree polygon;
+    list = refl;
+    each = rings_spelled arcs few polygon closed.0;
+  },
+  polygons_spelled arcs few parts closed.1,
+)
+
+-- the points of all rings of a region, each told with its first point at the end again
+abbrev outlines_of : List (List Point) → Figure → List (List Point)
+outlines_of arcs figure = flat_map (λ rings. rings) (map (λ polygon. map (points_of arcs) polygon) figure.polygons)
+
+ring_steps_of : (arcs : List (List Point)) → All (λ arc. 2 ≤ length arc) arcs → (rings : List (List ℤ)) → AllByRecursion (IsClosedRing arcs) rings
+    → flat_map steps_of_ring (map (points_of arcs) rings) ≡ flat_map (λ ring. steps_of_ring (told arcs ring)) rings
+ring_steps_of arcs long [] closed = refl
+ring_steps_of arcs long (ring ∷ rings) closed =
+    ap₂ (λ (a b : List (Point × Point)). a ++ b) (ring_steps arcs long ring (recursion_from_All (IsIndex arcs) ring closed.0.in_range) closed.0) (ring_steps_of arcs long rings closed.1)
+
+polygon_steps_of : (arcs : List (List Point)) → All (λ arc. 2 ≤ length arc) arcs → (parts : List (List (List ℤ))) → AllByRecursion (AreClosedRings arcs) parts
+    → flat_map steps_of_ring (flat_map (λ rings. rings) (map (λ polygon. map (points_of arcs) polygon) parts)) ≡ flat_map (λ ring. steps_of_ring (told arcs ring)) (rings_in parts)
+polygon_steps_of arcs long [] closed = refl
+polygon_steps_of arcs long (polygon ∷ parts) closed =
+    flat_map-append steps_of_ring (map (points_of arcs) polygon) (flat_map (λ rings. rings) (map (λ polygon. map (points_of arcs) polygon) parts))
+    ∙ ap₂ (λ (a b : List (Point × Point)). a ++ b) (ring_steps_of arcs long polygon closed.0) (polygon_steps_of arcs long parts closed.1)
+    ∙ sym (flat_map-append (λ ring. steps_of_ring (told arcs ring)) polygon (rings_in parts))
+
+-- ---- areas
+
+area_spelled : (arcs : List (List Point)) → length arcs < 2 ^ 64 → All (λ arc. 2 ≤ length arc) arcs → (region : ℕ) (figure : Figure) → IsWritableClass figure.class → AreClosed arcs figure
+    → (area : Outline) → IsAreaOf arcs figure area → SpellsArea arcs (codes "class") (geometry_tree region figure) area
+area_spelled arcs few long region figure class closed area is =
+    let parts = closed_parts arcs figure closed in
+    record {
+      properties = object ((codes "class", Str figure.class) ∷ []);
+      value = Str figure.class;
+      rings = outlines_of arcs figure;
+      properties_are = refl;
+      value_is = refl;
+      class_is = by_text (ap Str (sym is.class_is)) (subst (λ c. 1 ≤ length c) (sym is.class_is) class.some) (subst (λ c. length c ≤ 100) (sym is.class_is) class.few);
+      rings_are = polygons (map polygon_tree figure.polygons) (map (λ polygon. map (points_of arcs) polygon) figure.polygons) refl refl (polygons_spelled arcs few figure.polygons parts) refl;
+      steps_are = is.steps_are ∙ sym (polygon_steps_of arcs long figure.polygons parts);
+    }
+
+areas_spelled : (arcs : List (List Point)) → length arcs < 2 ^ 64 → All (λ arc. 2 ≤ length arc) arcs → (region : ℕ) (figures : List Figure) → AllByRecursion (λ figure. IsWritableClass figure.class) figures → AllByRecursion (AreClosed arcs) figures
+    → (areas : List Outline) → AllZip (IsAreaOf arcs) figures areas → AllZip (SpellsArea arcs (codes "class")) (filter (λ place. not (is_passed place)) (geometry_trees region figures)) areas
+areas_spelled arcs few long region [] classes closed [] are = tt
+areas_spelled arcs few long region [] classes closed (area ∷ areas) are = absurd are
+areas_spelled arcs few long region (figure ∷ figures) classes closed [] are = absurd are
+areas_spelled arcs few long region (figure ∷ figures) classes closed (area ∷ areas) are =
+    (area_spelled arcs few long region figure classes.0 closed.0 area are.0, areas_spelled arcs few long (region + 1) figures classes.1 closed.1 areas are.1)
+
+none_passed : (region : ℕ) (figures : List Figure) → 0 ≡ count_by is_passed (geometry_trees region figures)
+none_passed region [] = refl
+none_passed region (figure ∷ figures) = none_passed (region + 1) figures
+
+count_is : (arcs : List (List Point)) (figures : List Figure) (areas : List Outline) → AllZip (IsAreaOf arcs) figures areas → length areas ≡ length figures
+count_is arcs [] [] are = refl
+count_is arcs [] (area ∷ areas) are = absurd are
+count_is arcs (figure ∷ figures) [] are = absurd are
+count_is arcs (figure ∷ figures) (area ∷ areas) are = ap suc (count_is arcs figures areas are.1)
+
+step_count_is : (arcs : List (List Point)) (figures : List Figure) (areas : List Outline) → AllZip (IsAreaOf arcs) figures areas → step_count areas ≡ sum_by (λ figure. length (steps_of arcs figure)) figures
+step_count_is arcs [] [] are = refl
+step_count_is arcs [] (area ∷ areas) are = absurd are
+step_count_is arcs (figure ∷ figures) [] are = absurd are
+step_count_is arcs (figure ∷ figures) (area ∷ areas) are =
+    sum_by-cons (λ (a : Outline). length a.steps) area areas
+    ∙ ap₂ (λ m n. m + n) (sym (length-map area.steps ends_of) ∙ ap length are.0.steps_are) (step_count_is arcs figures areas are.1)
+    ∙ sym (sum_by-cons (λ figure. length (steps_of arcs figure)) figure figures)
+
+spelled_by : (drawn : Drawn) (frame : Frame) → IsWritable drawn frame → length drawn.arcs < 2 ^ 64 → (areas : List Outline) → AllZip (IsAreaOf drawn.arcs) drawn.shapes areas
+    → (tree : Json) → member_of tree (codes "type") ≡ Some (Str (codes "Topology")) → SpellsFrame tree frame
+    → member_of tree (codes "objects") ≡ Some (objects_of (array (geometry_trees 0 drawn.shapes))) → member_of tree (codes "arcs") ≡ Some (array (map (arc_tree (is_relative frame)) drawn.arcs))
+    → SpellsTopology tree (codes "class") (Some (codes "regions")) (record { areas = areas; passed = 0; frame = frame })
+spelled_by drawn frame is few areas are tree type_is frame_is objects_are parts_are =
+    let figures = drawn.shapes in
+    let classes = recursion_from_All (λ (figure : Figure). IsWritableClass figure.class) figures is.classes in
+    let closed = recursion_from_All (AreClosed drawn.arcs) figures is.rings in
+    record {
+      objects = objects_of (array (geometry_trees 0 figures));
+      picked = collection_of (array (geometry_trees 0 figures));
+      places = geometry_trees 0 figures;
+      parts = map (arc_tree (is_relative frame)) drawn.arcs;
+      arcs = drawn.arcs;
+      type_is = type_is;
+      frame_is = frame_is;
+      objects_are = objects_are;
+      picked_is = refl;
+      parts_are = parts_are;
+      arcs_are = arcs_spelled (is_relative frame) drawn.arcs (recursion_from_All (λ arc. 2 ≤ length arc) drawn.arcs is.long);
+      places_are = collection refl refl;
+      areas_are = areas_spelled drawn.arcs few is.long 0 figures classes closed areas are;
+      passed_is = none_passed 0 figures;
+      few_areas = omega (arith, count_is drawn.arcs figures areas are, is.few_shapes);
+      few_steps = omega (arith, step_count_is drawn.arcs figures areas are, is.few_steps);
+    }
+
+pub tree_spells : (drawn : Drawn) (frame : Frame) → IsWritable drawn frame → length drawn.arcs < 2 ^ 64 → (areas : List Outline) → AllZip (IsAreaOf drawn.arcs) drawn.shapes areas
+    → SpellsTopology (tree_of drawn frame) (codes "class") (Some (codes "regions")) (record { areas = areas; passed = 0; frame = frame })
+tree_spells drawn Plain is few areas are = spelled_by drawn Plain is few areas are (tree_of drawn Plain) refl refl refl refl
+tree_spells drawn (Scaled sx sy tx ty) is few areas are =
+    spelled_by drawn (Scaled sx sy tx ty) is few areas are (tree_of drawn (Scaled sx sy tx ty)) refl (transform_of sx sy tx ty, refl, record { scale = refl; translate = refl }) refl refl
