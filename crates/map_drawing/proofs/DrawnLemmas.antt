@@ -1,0 +1,121 @@
+-- From the drawing of a grouping and the text of a drawing to the written map.
+use Rattle.std.proofs.Common.{◌≡◌, ℕ, zero, suc, ◌<◌, List, [], ◌∷◌, length, map, get_or, Contains, refl, sym, subst, ap, ◌∙◌, arith}
+use Rattle.std.specs.List.{AllZip}
+use Rattle.plane_edge.specs.declared.edge.Edge.{Edge}
+use Rattle.plane_edge.specs.declared.point.Point.{Point}
+use Rattle.plane_edge.specs.Edges.{occurrences}
+use Rattle.plane_edge.specs.Rings.{Outline, ends_of}
+use Rattle.coverage_check.specs.Checked.{CheckedMap, IsChecked}
+use Rattle.coverage_check.specs.Kept.{odd_list, odds_of}
+use Rattle.coverage_check.specs.Cover.{IsDisjointCover}
+use Rattle.coverage_check.proofs.KeptLemmas.{odd_list_odd}
+use Rattle.coverage_check.proofs.Counts.{count-map, Contains-map}
+use Rattle.plane_edge.proofs.EqualLemmas.{edges_equal}
+use Rattle.plane_edge.proofs.OddLemmas.{contains_from_occurs, odd_inside}
+use Rattle.agg_model.specs.Plan.{Groups, region}
+use Rattle.region_edges.specs.RegionEdges.{IsBorderOf}
+use Rattle.region_edges.specs.PointSets.{AreStepsOf, AreRisingLists}
+use Rattle.region_edges.proofs.GatherLemmas.{rising_lists}
+use Rattle.region_edges.proofs.PointLemmas.{drawn_holds}
+use Rattle.region_rings.specs.RegionRings.{step_count, is_same_step}
+use Rattle.arc_dissolve.specs.Shapes.{Drawn, Figure}
+use Rattle.arc_dissolve.specs.Drawing.{IsDrawingOf, IsShapeOf, AreBorderSteps, steps_of}
+use Rattle.topo_writer.specs.Drawing.{IsWritable, IsAreaOf, SpellsDrawn}
+use Rattle.topo_writer.specs.MapText.{map_text}
+use Rattle.topo_writer.proofs.Writable.{drawing_is_writable}
+use Rattle.map_drawing.specs.Drawn.{IsDrawable, IsDrawnRegion, IsDrawnMap, area_at}
+
+-- ---- steps and edges
+
+-- an edge stands among edges as often as its step among their steps
+occurrences-steps : (e : Edge) (es : List Edge) → step_count (ends_of e) (map ends_of es) ≡ occurrences e es
+occurrences-steps e es = count-map (λ t. is_same_step (ends_of e) t) ends_of es
+
+-- edges of the same ends are the same
+same_edge : (e f : Edge) → ends_of e ≡ ends_of f → e ≡ f
+same_edge e f same = edges_equal e f (record {
+  low_x = ap (λ ends. ends.0.x) same;
+  low_y = ap (λ ends. ends.0.y) same;
+  high_x = ap (λ ends. ends.1.x) same;
+  high_y = ap (λ ends. ends.1.y) same;
+})
+
+contains_ends : (e : Edge) (es : List Edge) → Contains es e → Contains (map ends_of es) (ends_of e)
+contains_ends e es here = subst (λ f. Contains (map ends_of es) (ends_of f)) here.2 (Contains-map ends_of es here.0 e here.1)
+
+-- ---- one region
+
+-- where the steps go along each border edge once and along no other edge, the border edges are the odd ones
+pub steps_odd : (odds : List (List Edge)) (g : Groups) (r : ℕ) (steps : List Edge) (all : List (Point × Point)) → map ends_of steps ≡ all
+    → AreBorderSteps (IsBorderOf odds (region g) r) all → AreStepsOf odds (region g) r steps
+steps_odd odds g r steps all same are = λ e. (
+  λ odd.
+      let some : 0 < occurrences e steps = omega arith in
+      let here : Contains all (ends_of e) = subst (λ ss. Contains ss (ends_of e)) same (contains_ends e steps (contains_from_occurs e steps some)) in
+      let border = are.only (ends_of e) here in
+      subst (IsBorderOf odds (region g) r) (same_edge border.0 e border.1.0) border.1.1,
+  λ border.
+      let once : step_count (ends_of e) (map ends_of steps) ≡ 1 = ap (step_count (ends_of e)) same ∙ are.once e border in
+      let count : occurrences e steps ≡ 1 = sym (occurrences-steps e steps) ∙ once in
+      omega arith,
+)
+
+-- a drawn region has its class's name, its border edges, and its points
+pub drawn_region : (odds : List (List Edge)) (g : Groups) (names : List (List ℕ)) (arcs : List (List Point)) (r : ℕ) (figure : Figure) (area : Outline)
+    → AreRisingLists odds → IsDisjointCover odds → IsShapeOf odds g names arcs r figure → IsAreaOf arcs figure area → IsDrawnRegion odds g names r area
+drawn_region odds g names arcs r figure area rising disjoint shape is =
+    let borders = steps_odd odds g r area.steps (steps_of arcs figure) is.steps_are shape.steps in
+    record {
+      class = is.class_is ∙ shape.class;
+      borders = borders;
+      points = λ s real.
+          let alike = odd_inside area.steps (odd_list area.steps) (odd_list_odd area.steps) s in
+          let held = drawn_holds odds (region g) r area.steps s real rising disjoint borders in
+          ((λ inside. held.0 (alike.0 inside)), (λ held_by. alike.1 (held.1 held_by)));
+    }
+
+-- ---- what may be written
+
+no_figure : Figure
+no_figure = record { class = []; polygons = [] }
+
+-- a drawing of a grouping may be written
+pub writable : (c : CheckedMap) (g : Groups) (names : List (List ℕ)) (drawn : Drawn) → IsDrawable c g names → IsDrawingOf (odds_of c.areas) g names drawn
+    → IsWritable drawn c.frame
+writable c g names drawn able drawing = drawing_is_writable (odds_of c.areas) g names drawn c.frame drawing able.frame able.named able.few able.classes
+
+-- ---- the whole map
+
+zip_length : {X Y : Type 0} (R : X → Y → Type 0) (xs : List X) (ys : List Y) → AllZip R xs ys → length xs ≡ length ys
+zip_length R [] [] h = refl
+zip_length R [] (y ∷ ys) h = absurd h
+zip_length R (x ∷ xs) [] h = absurd h
+zip_length R (x ∷ xs) (y ∷ ys) h = ap suc (zip_length R xs ys h.1)
+
+zip_at : {X Y : Type 0} (R : X → Y → Type 0) (xs : List X) (ys : List Y) (i : ℕ) (d : X) (e : Y) → AllZip R xs ys → i < length ys → R (get_or xs i d) (get_or ys i e)
+zip_at R [] [] i d e h k = absurd (omega arith)
+zip_at R [] (y ∷ ys) i d e h k = absurd h
+zip_at R (x ∷ xs) [] i d e h k = absurd h
+zip_at R (x ∷ xs) (y ∷ ys) zero d e h k = h.0
+zip_at R (x ∷ xs) (y ∷ ys) (suc i) d e h k = zip_at R xs ys i d e h.1 (omega arith)
+
+pub drawn_map : (c : CheckedMap) (g : Groups) (names : List (List ℕ)) (drawn : Drawn) (text : List ℕ) → IsChecked c.areas
+    → IsDrawingOf (odds_of c.areas) g names drawn → text ≡ map_text drawn c.frame → SpellsDrawn text drawn c.frame
+    → IsDrawnMap (odds_of c.areas) g names c.frame text
+drawn_map c g names drawn text checked drawing layout spells =
+    let long : length drawn.shapes ≡ length spells.areas = zip_length (IsAreaOf drawn.arcs) drawn.shapes spells.areas spells.are in
+    record {
+      drawn = drawn;
+      drawing = drawing;
+      layout = layout;
+      tree = spells.tree;
+      areas = spells.areas;
+      spelled = spells.text;
+      topology = spells.topology;
+      one_each = sym long ∙ drawing.count;
+      regions = λ r h.
+          drawn_region (odds_of c.areas) g names drawn.arcs r (get_or drawn.shapes r no_figure) (area_at spells.areas r)
+          (rising_lists c.areas checked.parts) checked.disjoint
+          (drawing.each r no_figure (subst (λ n. r < n) (sym long ∙ drawing.count) h))
+          (zip_at (IsAreaOf drawn.arcs) drawn.shapes spells.areas r no_figure (record { class = []; steps = [] }) spells.are h);
+    }

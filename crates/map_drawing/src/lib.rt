@@ -1,0 +1,6 @@
+//! The written map of a grouping: every region as the exact union of its areas.
+#![tactic(auto)]
+
+mod drawing;
+
+pub use drawing::draw;
