@@ -71,7 +71,7 @@ stated_problem files words r s p spelled answered problem =
     let same : problem.request ≡ r = one_request words problem.request r problem.spelled spelled in
     let here : Answered (Some problem.told) r s = subst (λ f. Answered f r s) problem.told_is answered in
     let one : here.answers.problem ≡ p = one_problem problem.told r here.answers.problem p (accepts_of (Some problem.told) r s here) (subst (λ q. Accepts (Some problem.told) q p) same problem.accepts) in
-    subst (λ q. States q s) one here.answers.states
+    subst (λ q. States q s) one here.answers.answers.states
 
 -- where no grouping is feasible, that is what is stated
 pub stated_hopeless : (files : Option Files) (words : List (List ℕ)) (r : Request) (s : Stated) (p : Plan)

@@ -2,10 +2,11 @@
 use Rattle.std.proofs.Common.{◌≡◌, ◌⊎◌, inl, inr, ℕ, List, [], ◌∷◌, Option, refl, sym, ◌∙◌, ap, subst}
 use Rattle.shelf_io.specs.Files.{Files, spoken, IsPartlySpoken}
 use Rattle.generalise_core.specs.Words.{Request, Spells}
-use Rattle.generalise_core.specs.Certificates.{Stated, report}
+use Rattle.generalise_core.specs.Certificates.{Stated, certificate, report}
+use Rattle.generalise_core.specs.Texts.{text_of}
 use Rattle.generalise_core.specs.Stops.{line_of, status_of_stop, usage_line}
 use Rattle.generalise_core.specs.Puts.{IsPartlyPut}
-use Rattle.generalise_core.specs.Runs.{MayEndAs, MayFailAs, IsHeard, IsDueLine, usage, refusal, map_missed, table_missed, reported, Answered, IsPartlyKept, IsRefusal}
+use Rattle.generalise_core.specs.Runs.{map_due, MayEndAs, MayFailAs, IsHeard, IsDueLine, usage, refusal, map_missed, table_missed, reported, Answered, IsPartlyKept, IsRefusal}
 use Rattle.generalise_core.specs.Plans.{IsStopped, Writes}
 use Rattle.generalise_core.specs.Codes.{status_of}
 use Rattle.generalise_core.specs.declared.outcome.Kind.{Kind}
@@ -48,9 +49,17 @@ heard_report files before between after words r s plan spelled answered writes s
 
 pub partly_kept : (old between new : Option Files) (words : List (List ℕ)) (r : Request) (s : Stated) (plan : Plan)
     → Spells words r → Answered old r s → Writes plan s → between ≡ old
-    → IsPartlyPut between new ((r.certificate, plan.certificate.items) ∷ []) → IsPartlyKept old new words
+    → IsPartlyPut between new ((r.certificate, plan.certificate.items) ∷ map_due r.out (text_of plan.map)) → IsPartlyKept old new words
 partly_kept old between new words r s plan spelled answered writes same part =
-    inr (r, s, spelled, answered, subst (λ t. IsPartlyPut old new ((r.certificate, t) ∷ [])) writes.certificate_is (subst (λ f. IsPartlyPut f new ((r.certificate, plan.certificate.items) ∷ [])) same part))
+    inr (
+      r,
+      s,
+      spelled,
+      answered,
+      subst (λ m. IsPartlyPut old new ((r.certificate, certificate s) ∷ map_due r.out m)) writes.map_is
+          (subst (λ t. IsPartlyPut old new ((r.certificate, t) ∷ map_due r.out (text_of plan.map))) writes.certificate_is
+          (subst (λ f. IsPartlyPut f new ((r.certificate, plan.certificate.items) ∷ map_due r.out (text_of plan.map))) same part)),
+    )
 
 -- ---- statuses
 

@@ -1,14 +1,24 @@
 -- From an answer to a problem to a plan for two texts.
-use Rattle.std.proofs.Common.{◌≡◌, ◌≢◌, ◌↔◌, ◌<◌, ◌+◌, ◌-◌, inl, inr, ℕ, zero, suc, ℤ, pos, ◌≤ℤ◌, List, [], ◌∷◌, ◌++◌, length, slice_index, get_or, Contains, Some, None, refl, sym, subst, ap, ◌∙◌, arith, length-append}
+use Rattle.std.proofs.Common.{◌≡◌, ◌≢◌, ◌↔◌, ◌<◌, ◌+◌, ◌-◌, inl, inr, ℕ, zero, suc, ℤ, pos, ◌≤ℤ◌, List, [], ◌∷◌, ◌++◌, length, slice_index, get_or, Contains, Option, Some, None, refl, sym, subst, ap, ◌∙◌, arith, length-append}
 use Rattle.std.proofs.lemmas.Bool.{cases_lt}
 use Rattle.std.proofs.lemmas.List.{get_or_append_left, get_or-append_right}
 use Rattle.std.proofs.lemmas.List.Elements.{Contains-get_or, Contains-append_left, Contains-append_right, Contains-append_cases}
-use Rattle.agg_model.specs.Plan.{Plan, Groups, IsPlan, IsFeasible, IsRising, areas, cost}
+use Rattle.agg_model.specs.Plan.{Plan, Groups, IsPlan, IsFeasible, IsRising, areas, cost, region, class_in}
 use Rattle.agg_model.specs.Parts.{AreParts, InOnePart}
 use Rattle.agg_model.proofs.CostLemmas.{cost_law}
 use Rattle.greedy_start.specs.Starts.{IsNumberedByLeast, IsOneRegionEach, IsFirstHopeless}
 use Rattle.greedy_start.proofs.PartLemmas.{one_number, one_way, parts_law}
-use Rattle.generalise_core.specs.Certificates.{Stated}
+use Rattle.std.proofs.lemmas.List.Elements.{All-from_get_or}
+use Rattle.area_graph.specs.Problems.{IsProblemOf}
+use Rattle.class_table.specs.Classes.{Classes, IsClasses, name_of}
+use Rattle.class_table.specs.Names.{IsName}
+use Rattle.coverage_check.specs.Checked.{CheckedMap}
+use Rattle.plane_edge.specs.declared.frame.Frame.{Frame}
+use Rattle.plane_edge.specs.declared.frame.Frame.TheVariants.{Plain, Scaled}
+use Rattle.grid_reader.specs.Frames.{IsNumberFrame}
+use Rattle.topo_writer.specs.Drawing.{IsWritableFrame, IsWritableClass}
+use Rattle.map_drawing.specs.Drawn.{IsDrawable}
+use Rattle.generalise_core.specs.Certificates.{Stated, certificate, report, with_map}
 use Rattle.generalise_core.specs.Answers.{States, IsBound, IsKindOf, IsPartOf, IsVoidOver, leaf_of}
 use Rattle.generalise_core.specs.Places.{ArePlaces}
 use Rattle.generalise_core.specs.declared.outcome.Kind.TheVariants.{Hopeless}
@@ -173,3 +183,37 @@ place_passed numbers number n places other are = record {
 pub all_places : (numbers : List ℕ) (number n : ℕ) (places : List ℕ) → n ≡ length numbers → ArePlacesBelow numbers number n places → ArePlaces numbers number places
 all_places numbers number n places all are =
     record { rising = are.rising; exact = subst (λ m. (v : ℕ) → Contains places v ↔ ((v < m) × (slice_index numbers v ≡ number))) all are.exact }
+
+-- ---- the map is no part of the certificate, nor of the report
+
+pub same_certificate : (s : Stated) (text : Option (List ℕ)) → certificate (with_map s text) ≡ certificate s
+unfolding certificate
+same_certificate s text = refl
+
+pub same_report : (s : Stated) (text : Option (List ℕ)) → report (with_map s text) ≡ report s
+unfolding report
+same_report s text = refl
+
+-- ---- the map
+
+writable_name : (name : List ℕ) → IsName name → IsWritableClass name
+writable_name name is = record { some = is.some; few = is.few; printed = is.printed }
+
+-- a grid's frame may be written
+pub writable_frame : (frame : Frame) → IsNumberFrame frame → IsWritableFrame frame
+writable_frame Plain is = is
+writable_frame (Scaled sx sy tx ty) is = record { scale_x = is.0; scale_y = is.1; move_x = is.2; move_y = is.3 }
+
+-- a feasible grouping of a checked map's problem may be drawn
+pub drawable : (c : CheckedMap) (t : Classes) (p : Plan) (g : Groups) → IsProblemOf c.areas t p → IsClasses t → IsWritableFrame c.frame → IsFeasible p g → IsDrawable c g t.names
+drawable c t p g is_problem table frame feasible =
+    let numbered = feasible.numbered in
+    let long : length g.region_of ≡ length c.areas = numbered.one_each ∙ is_problem.own.one_each in
+    record {
+      one_each = long;
+      in_range = λ v h. numbered.in_range v (subst (λ n. v < n) numbered.one_each h);
+      few = numbered.few;
+      classes = λ r h. subst (λ n. class_in g r < n) is_problem.classes (numbered.classes r h);
+      named = All-from_get_or IsWritableClass t.names [] (λ k h. writable_name (name_of t k) (table.named k h));
+      frame = frame;
+    }

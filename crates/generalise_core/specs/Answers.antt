@@ -1,9 +1,11 @@
 -- What the program makes of the bytes of the map and the table.
-use Rattle.std.specs.Prelude.{◌≡◌, ℕ, ◌<◌, List, [], Contains, None, Some, ℤ, pos, ◌≤ℤ◌, ◌<ℤ◌, ◌⊎◌, ◌↔◌, if◌then◌else◌, ◌||◌, ◌==◌}
+use Rattle.std.specs.Prelude.{◌≡◌, ℕ, ◌<◌, List, [], Contains, Option, None, Some, ℤ, pos, ◌≤ℤ◌, ◌<ℤ◌, ◌⊎◌, ◌↔◌, if◌then◌else◌, ◌||◌, ◌==◌}
 use Rattle.agg_model.specs.Plan.{Plan, Groups, IsFeasible, IsRising, areas, cost}
 use Rattle.agg_model.specs.Parts.{InOnePart}
 use Rattle.class_table.specs.Classes.{Classes}
 use Rattle.coverage_check.specs.Checked.{CheckedMap}
+use Rattle.coverage_check.specs.Kept.{odds_of}
+use Rattle.map_drawing.specs.Drawn.{IsDrawnMap}
 use Rattle.greedy_start.specs.Starts.{IsNumberedByLeast, IsOneRegionEach, IsFirstHopeless}
 use Rattle.generalise_steps.specs.Loads.{Loads}
 use Rattle.generalise_core.specs.declared.outcome.Kind.{Kind}
@@ -70,11 +72,25 @@ pub record StatesNone (p : Plan) (s : Stated) : Type 0 where
 abbrev pub States : Plan → Stated → Type 0
 States p s = (s.areas ≡ areas p) × (StatesGrouping p s ⊎ StatesNone p s)
 
--- The map and the table are accepted, and this answers their problem. It tells how many areas were passed over.
+-- the map is drawn from the grouping, with the names of the table's classes; none where no grouping is feasible
+abbrev pub IsDrawn : CheckedMap → Classes → Groups → Kind → Option (List ℕ) → Type 0
+IsDrawn c t g Hopeless None = Unit {0}
+IsDrawn c t g Hopeless (Some text) = ⊥
+IsDrawn c t g Done None = ⊥
+IsDrawn c t g Done (Some text) = IsDrawnMap (odds_of c.areas) g t.names c.frame text
+IsDrawn c t g Within None = ⊥
+IsDrawn c t g Within (Some text) = IsDrawnMap (odds_of c.areas) g t.names c.frame text
+
+-- This answers the problem of a checked map and a table. It tells how many areas were passed over, and the map is drawn.
+pub record Answers (c : CheckedMap) (t : Classes) (p : Plan) (s : Stated) : Type 0 where
+  pub states : States p s
+  pub passed : s.passed ≡ c.passed
+  pub drawn : IsDrawn c t s.grouping s.kind s.map
+
+-- The map and the table are accepted, and this answers their problem.
 pub record IsAnswer (map table : List ℕ) (s : Stated) : Type 0 where
   pub checked : CheckedMap
   pub classes : Classes
   pub problem : Plan
   pub loads : Loads map table checked classes problem
-  pub states : States problem s
-  pub passed : s.passed ≡ checked.passed
+  pub answers : Answers checked classes problem s

@@ -9,8 +9,8 @@ use Rattle.generalise_core.specs.declared.outcome.Kind.TheVariants.{Done, Within
 use Rattle.generalise_core.specs.declared.outcome.Leaf.{Leaf}
 use Rattle.generalise_core.specs.declared.outcome.Leaf.TheVariants.{Fixed, Plain, Void}
 
--- What a certificate and a report state: how the run ends, how many areas there are and how many were passed over, the grouping, its cost, a bound of every feasible grouping's
--- cost, and the one leaf that proves the bound. Where no grouping is feasible there is no region, no cost and no bound.
+-- What is stated of an answer, in the certificate, the report and the written map: how the run ends, how many areas there are and how many were passed over, the grouping, its cost, a bound of every feasible grouping's
+-- cost, and the one leaf that proves the bound. The map is the text that is written. Where no grouping is feasible there is no region, no cost, no bound and no map.
 pub record Stated : Type 0 where
   pub kind : Kind
   pub areas : ℕ
@@ -19,6 +19,11 @@ pub record Stated : Type 0 where
   pub cost : Option ℤ
   pub bound : Option ℤ
   pub leaf : Leaf
+  pub map : Option (List ℕ)
+
+-- the same with this map
+abbrev pub with_map : Stated → Option (List ℕ) → Stated
+with_map s text = record s { map = text }
 
 abbrev pub kind_word : Kind → List ℕ
 kind_word Done = codes "optimal"

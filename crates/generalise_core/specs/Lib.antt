@@ -9,3 +9,4 @@ pub mod Codes
 pub mod Puts
 pub mod Runs
 pub mod Plans
+pub mod PlanDues

@@ -1,5 +1,6 @@
 -- What a run makes of its files before it stores or says anything.
 use Rattle.std.specs.Prelude.{◌≡◌, ℕ, List, Result, Ok, Err, Option, ⊤}
+use Rattle.generalise_core.specs.Texts.{text_of}
 use Rattle.shelf_io.specs.Files.{Files}
 use Rattle.shelf_io.specs.Causes.{Rose}
 use Rattle.generalise_core.specs.Words.{Request}
@@ -18,6 +19,7 @@ pub record Writes (plan : Plan) (s : Stated) : Type 0 where
   pub kind : plan.kind ≡ s.kind
   pub certificate_is : plan.certificate.items ≡ certificate s
   pub report_is : plan.report.items ≡ report s
+  pub map_is : text_of plan.map ≡ s.map
 
 -- a plan states an answer, and a refusal is that of the texts
 abbrev pub IsPlanned : List ℕ → List ℕ → Result Plan Halt → Type 0

@@ -1,5 +1,5 @@
 -- How a run ends, by what the words and the files say.
-use Rattle.std.specs.Prelude.{◌≡◌, ◌⊎◌, ◌<◌, ◌≤◌, ℕ, List, [], ◌∷◌, length, Option, Some, IfSome, codes}
+use Rattle.std.specs.Prelude.{◌≡◌, ◌⊎◌, ◌<◌, ◌≤◌, ℕ, List, [], ◌∷◌, length, Option, None, Some, IfSome, codes}
 use Rattle.shelf_io.specs.Files.{Files, text_at, spoken, IsPartlySpoken}
 use Rattle.shelf_io.specs.Causes.{Rose}
 use Rattle.agg_model.specs.Plan.{Plan}
@@ -60,9 +60,14 @@ pub record Accepts (files : Option Files) (r : Request) (p : Plan) : Type 0 wher
   pub table_is : IsText files r.table table_limit table
   pub accepted : IsAccepted map table p
 
--- what is due to be stored: the certificate
+-- the written map is due where there is one
+abbrev pub map_due : List ℕ → Option (List ℕ) → List Due
+map_due out None = []
+map_due out (Some text) = (out, text) ∷ []
+
+-- what is due to be stored, in this order: the certificate, and then the map
 abbrev pub dues : Request → Stated → List Due
-dues r s = (r.certificate, certificate s) ∷ []
+dues r s = (r.certificate, certificate s) ∷ map_due r.out s.map
 
 -- all that is due is stored and the report is said; no other file has changed, and nothing else was said
 pub record IsKept (old new : Option Files) (before after : Option (List ℕ)) (words : List (List ℕ)) (kind : Kind) : Type 0 where
@@ -130,5 +135,5 @@ pub record AreRefused (files : Option Files) (words : List (List ℕ)) (line : L
   pub refused : IsRefused (Some told) request line
 
 -- the run answers with a certificate
-abbrev pub Answers : Status → Type 0
-Answers status = (kind : Kind) × (status ≡ status_of kind)
+abbrev pub IsAnswered : Status → Type 0
+IsAnswered status = (kind : Kind) × (status ≡ status_of kind)

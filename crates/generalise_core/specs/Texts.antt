@@ -1,6 +1,12 @@
-use Rattle.std.specs.Prelude.{ℕ, List, map}
+-- Lists that values of the code hold.
+use Rattle.std.specs.Prelude.{ℕ, List, map, Option, option_map, Vec}
+use Rattle.std.specs.declared.alloc.Global.{Global}
 use Rattle.std.specs.Borrow.{Bor}
 
 -- the texts that are lent
 abbrev pub texts : List (Bor (List ℕ)) → List (List ℕ)
 texts = map (λ x. x.now)
+
+-- the bytes, where there are any
+abbrev pub text_of : Option (Vec ℕ Global) → Option (List ℕ)
+text_of = option_map (λ text. text.items)

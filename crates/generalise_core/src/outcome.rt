@@ -28,7 +28,7 @@ pub enum Leaf {
     },
 }
 
-/// An answer, as the certificate and the report state it.
+/// An answer, as the certificate and the report state it, before its map is drawn.
 #[derive(Drop)]
 pub struct Outcome {
     pub kind: Kind,
@@ -47,8 +47,9 @@ pub struct Outcome {
 
 impl Model for Outcome {
     ghost use Rattle.generalise_core.specs.Certificates.{Stated};
+    ghost use Rattle.std.specs.Prelude.{None};
 
     ghost Value = { Stated };
 
-    ghost view = { λ o. record { kind = o.kind; areas = o.areas; passed = o.passed; grouping = o.grouping; cost = o.cost; bound = o.bound; leaf = o.leaf } };
+    ghost view = { λ o. record { kind = o.kind; areas = o.areas; passed = o.passed; grouping = o.grouping; cost = o.cost; bound = o.bound; leaf = o.leaf; map = None } };
 }

@@ -3,7 +3,11 @@ ghost use Rattle.std.specs.Prelude.{◌≡◌, ◌≤◌, ◌<◌, ℕ, length, 
 ghost use Rattle.agg_model.specs.Plan.{Groups, IsFeasible, areas, cost};
 ghost use Rattle.agg_model.specs.Parts.{AreParts};
 ghost use Rattle.greedy_start.specs.Starts.{IsNumberedByLeast, IsOneRegionEach, IsFirstHopeless};
-ghost use Rattle.generalise_core.specs.Answers.{IsKindOf, IsPartOf, States, leaf_of};
+ghost use Rattle.topo_writer.specs.Drawing.{IsWritableFrame};
+ghost use Rattle.generalise_core.specs.Answers.{Answers, IsDrawn, IsKindOf, IsPartOf, States, leaf_of};
+ghost use Rattle.area_graph.specs.Problems.{IsProblemOf};
+ghost use Rattle.generalise_core.specs.Texts.{text_of};
+ghost use Rattle.generalise_core.specs.Certificates.{with_map};
 ghost use Rattle.generalise_core.specs.Places.{ArePlaces};
 ghost use Rattle.generalise_core.specs.Certificates.{Stated};
 ghost use Rattle.generalise_core.specs.Plans.{IsPlanned, Writes};
@@ -13,8 +17,9 @@ use crate::{Kind, Leaf, Outcome, Stop};
 use agg_base::NoMemory;
 use agg_model::{Grouping, Problem, cost, parts};
 use crew_work::Crew;
-use generalise_steps::load;
+use generalise_steps::{Loaded, load};
 use greedy_start::{StartFault, start};
+use map_drawing::draw;
 use std::alloc::Global;
 
 /// What a run is to store and say.
@@ -22,6 +27,8 @@ use std::alloc::Global;
 pub struct Plan {
     pub kind: Kind,
     pub certificate: Vec<u8>,
+    /// The written map; none where no grouping is feasible.
+    pub map: Option<Vec<u8>>,
     pub report: Vec<u8>,
 }
 
@@ -133,24 +140,45 @@ fn answer(alloc: Global, problem: &Problem, passed: u32) -> Result<Outcome, NoMe
     }
 }
 
+// The map of a grouping; none where no grouping is feasible.
+fn map_of(alloc: Global, loaded: &Loaded, outcome: &Outcome) -> Result<Option<Vec<u8>>, NoMemory>
+    requires problem { IsProblemOf loaded.now.checked.areas loaded.now.table loaded.now.problem }
+    requires frame { IsWritableFrame loaded.now.checked.frame }
+    requires states { States loaded.now.problem outcome.now }
+    ensures { IfOk result (λ map. IsDrawn loaded.now.checked loaded.now.table outcome.now.grouping outcome.now.kind (text_of map)) }
+{
+    match outcome.kind {
+        Kind::Hopeless => Ok(None),
+        Kind::Done | Kind::Within => {
+            loaded.table.rules();
+            let names = loaded.table.names();
+            Ok(Some(draw(alloc, &loaded.checked, &outcome.grouping, names)?))
+        }
+    }
+}
+
 // The texts that state an outcome.
-fn written(alloc: Global, outcome: &Outcome) -> Result<Plan, NoMemory>
+fn written(alloc: Global, outcome: &Outcome, map: Option<Vec<u8>>) -> Result<Plan, NoMemory>
     requires { length outcome.now.grouping.class_of ≤ 65536 }
-    ensures { IfOk result (λ plan. Writes plan outcome.now) }
+    ensures { IfOk result (λ plan. Writes plan (with_map outcome.now (text_of map))) }
 {
     Ok(Plan {
         kind: outcome.kind,
         certificate: certificate(alloc, outcome)?,
+        map,
         report: report(alloc, outcome)?,
     })
 }
 
-// What is to be put out for a problem.
-fn planned(alloc: Global, problem: &Problem, passed: u32) -> Result<Plan, NoMemory>
-    ensures { IfOk result (λ plan. (s : Stated) × States problem.now s × (s.passed ≡ passed) × Writes plan s) }
+// What is to be put out for a map and a table.
+fn planned(alloc: Global, loaded: &Loaded) -> Result<Plan, NoMemory>
+    requires problem { IsProblemOf loaded.now.checked.areas loaded.now.table loaded.now.problem }
+    requires frame { IsWritableFrame loaded.now.checked.frame }
+    ensures { IfOk result (λ plan. (s : Stated) × Answers loaded.now.checked loaded.now.table loaded.now.problem s × Writes plan s) }
 {
-    let outcome = answer(alloc, problem, passed)?;
-    written(alloc, &outcome)
+    let outcome = answer(alloc, &loaded.problem, loaded.checked.passed())?;
+    let map = map_of(alloc, loaded, &outcome)?;
+    written(alloc, &outcome, map)
 }
 
 /// What is to be put out, or the line that refuses the files.
@@ -166,7 +194,7 @@ pub fn make_plan<W: Crew>(alloc: Global, map: &[u8], table: &[u8], crew: &W) -> 
         ))),
         Err(generalise_steps::Halt::Memory) => return Err(Halt::Memory),
     };
-    match planned(alloc, &loaded.problem, loaded.checked.passed()) {
+    match planned(alloc, &loaded) {
         Ok(plan) => Ok(plan),
         Err(NoMemory) => Err(Halt::Memory),
     }

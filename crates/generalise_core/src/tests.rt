@@ -32,12 +32,24 @@ fn files_of(alloc: Global, map: &[u8], table: &[u8]) -> Result<Vec<(Text, Vec<u8
     Ok(files)
 }
 
-// What a run ends with, says, and leaves in the file of the certificate.
+const DRAWN: &[u8] =
+    b"{\"type\":\"Topology\",\"transform\":{\"scale\":[1,1],\"translate\":[0,0]},\"objects\":{\"regions\":{\"type\":\"GeometryCollection\",\"geometries\":[{\"type\":\"MultiPolygon\",\"id\":0,\"properties\":{\"class\":\"1\"},\"arcs\":[[[0]]]}]}},\"arcs\":[[[0,0],[1,0],[1,0],[1,0],[0,1],[-1,0],[-1,0],[-1,0],[0,-1]]]}\n";
+
+// What a run ends with, says, and leaves in the files of the certificate and of the map.
 #[derive(Drop)]
 struct Ending {
     code: u8,
     said: Vec<u8>,
     certificate: Option<Vec<u8>>,
+    map: Option<Vec<u8>>,
+}
+
+// A file's bytes, where it is there.
+fn kept(alloc: Global, shelf: &MemShelf, name: &str) -> Result<Option<Vec<u8>>, NoMemory> {
+    match shelf.file(name) {
+        Some(bytes) => Ok(Some(Vec::from_slice(alloc, bytes)?)),
+        None => Ok(None),
+    }
 }
 
 fn ending_of(
@@ -52,14 +64,11 @@ fn ending_of(
     assert!(rt; names_differ(&files));
     let mut shelf = MemShelf::new(alloc, files, Vec::from_slice(alloc, failing)?);
     let code = run(alloc, &words_of(alloc, words)?, &mut shelf, &Alone).code();
-    let certificate = match shelf.file("c") {
-        Some(bytes) => Some(Vec::from_slice(alloc, bytes)?),
-        None => None,
-    };
     Ok(Ending {
         code,
         said: Vec::from_slice(alloc, shelf.said())?,
-        certificate,
+        certificate: kept(alloc, &shelf, "c")?,
+        map: kept(alloc, &shelf, "o")?,
     })
 }
 
@@ -79,6 +88,7 @@ fn one_region_is_within_its_bound(rt: HostRuntime) -> Result<(), Fail> {
         b"within\nareas 3\npassed 0\nregions 1\ncost 10\nbound 0\nsplits 0\n".as_slice()
     );
     assert_eq!(rt; bytes_of(&end.certificate), WITHIN);
+    assert_eq!(rt; bytes_of(&end.map), DRAWN);
     Ok(())
 }
 
@@ -138,7 +148,12 @@ fn stops(
     said: &[u8],
 ) -> Result<bool, NoMemory> {
     let end = ending_of(rt, alloc, words, map, table, &[])?;
-    Ok(end.code == code && end.said.as_slice() == said && end.certificate.is_none())
+    Ok(
+        end.code == code
+            && end.said.as_slice() == said
+            && end.certificate.is_none()
+            && end.map.is_none(),
+    )
 }
 
 // Whether a run on this map and table is refused by this line.
@@ -254,6 +269,7 @@ fn a_single_cell_may_be_hopeless(rt: HostRuntime) -> Result<(), Fail> {
         bytes_of(&end.certificate),
         b"aggregation 1\nstatus none\ncost -\nbound -\nareas 1\nregions 0\nv 1\ne 1 0 0 1 0\nend\n".as_slice()
     );
+    assert!(rt; end.map.is_none());
     Ok(())
 }
 
@@ -271,6 +287,10 @@ fn a_map_without_areas_is_optimal(rt: HostRuntime) -> Result<(), Fail> {
     assert_eq!(rt;
         bytes_of(&end.certificate),
         b"aggregation 1\nstatus optimal\ncost 0\nbound 0\nareas 0\nregions 0\nf\nend\n".as_slice()
+    );
+    assert_eq!(rt;
+        bytes_of(&end.map),
+        b"{\"type\":\"Topology\",\"transform\":{\"scale\":[1,1],\"translate\":[0,0]},\"objects\":{\"regions\":{\"type\":\"GeometryCollection\",\"geometries\":[]}},\"arcs\":[]}\n".as_slice()
     );
     Ok(())
 }
@@ -374,38 +394,49 @@ fn an_option_stands_once(rt: HostRuntime) -> Result<(), Fail> {
     Ok(())
 }
 
-// Whether a run with these failing calls ends so, says just that and leaves that certificate.
+// Whether a run with these failing calls ends so, says just that and leaves that certificate and that map.
 fn leaves(
     rt: &impl Abort,
     alloc: Global,
     failing: &[u64],
-    code: u8,
-    said: &[u8],
+    ends: (u8, &[u8]),
     certificate: &[u8],
+    map: &[u8],
 ) -> Result<bool, NoMemory> {
     let end = ending_of(rt, alloc, &FORM, MAP, TABLE, failing)?;
-    let kept = bytes_of(&end.certificate) == certificate;
-    Ok(end.code == code && end.said.as_slice() == said && kept)
+    let both = bytes_of(&end.certificate) == certificate && bytes_of(&end.map) == map;
+    Ok(end.code == ends.0 && end.said.as_slice() == ends.1 && both)
 }
 
 #[test]
 fn each_call_fails_in_turn(rt: HostRuntime) -> Result<(), Fail> {
     let alloc = rt.alloc();
     let none = b"(no file)";
-    assert!(rt; leaves(&rt, alloc, &[0], 74, b"read fault: map\n", none)?);
-    assert!(rt; leaves(&rt, alloc, &[1], 74, b"read fault: table\n", none)?);
-    assert!(rt; leaves(&rt, alloc, &[2], 75, b"", &WITHIN[..WITHIN.len() / 2])?);
+    assert!(rt; leaves(&rt, alloc, &[0], (74, b"read fault: map\n"), none, none)?);
+    assert!(rt; leaves(&rt, alloc, &[1], (74, b"read fault: table\n"), none, none)?);
+    assert!(rt;
+        leaves(
+            &rt,
+            alloc,
+            &[2],
+            (75, b""),
+            &WITHIN[..WITHIN.len() / 2],
+            none
+        )?
+    );
     assert!(rt;
         leaves(
             &rt,
             alloc,
             &[3],
-            75,
-            b"within\nareas 3\npassed 0\nregio",
-            WITHIN
+            (75, b""),
+            WITHIN,
+            &DRAWN[..DRAWN.len() / 2]
         )?
     );
-    assert!(rt; leaves(&rt, alloc, &[0, 1], 75, b"read fau", none)?);
+    let half = b"within\nareas 3\npassed 0\nregio";
+    assert!(rt; leaves(&rt, alloc, &[4], (75, half), WITHIN, DRAWN)?);
+    assert!(rt; leaves(&rt, alloc, &[0, 1], (75, b"read fau"), none, none)?);
     Ok(())
 }
 
@@ -418,6 +449,6 @@ fn a_sure_shelf_takes_all(rt: HostRuntime) -> Result<(), Fail> {
     let status = run(alloc, &words_of(alloc, &FORM)?, &mut shelf, &Alone);
     assert_eq!(rt; status, Status::Within);
     assert_eq!(rt; shelf.file("c"), Some(WITHIN));
-    assert_eq!(rt; shelf.file("o").is_none(), true);
+    assert_eq!(rt; shelf.file("o"), Some(DRAWN));
     Ok(())
 }

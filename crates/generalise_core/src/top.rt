@@ -5,12 +5,14 @@ ghost use Rattle.shelf_io.specs.Causes.{Rose};
 ghost use Rattle.agg_model.specs.Plan.{Groups, IsFeasible, Plan as Setting};
 ghost use Rattle.generalise_core.specs.Words.{Request, Spells};
 ghost use Rattle.generalise_core.specs.Asked.{request};
+ghost use Rattle.generalise_core.specs.Texts.{text_of};
+ghost use Rattle.generalise_core.specs.PlanDues.{due};
 ghost use Rattle.generalise_core.specs.declared.outcome.Kind.{Kind};
 ghost use Rattle.generalise_core.specs.Certificates.{Stated};
 ghost use Rattle.generalise_core.specs.Codes.{status_of};
 ghost use Rattle.generalise_core.specs.Stops.{line_of, status_of_stop, usage_line};
 ghost use Rattle.generalise_core.specs.Puts.{all_stored, IsPartlyPut};
-ghost use Rattle.generalise_core.specs.Runs.{MayEndAs, MayFailAs, Answers, IsKept, IsRefusal, IsReadFault, IsPartlyKept, IsHeard, IsProblemOf, AreRefused};
+ghost use Rattle.generalise_core.specs.Runs.{map_due, MayEndAs, MayFailAs, IsKept, IsRefusal, IsReadFault, IsPartlyKept, IsHeard, IsProblemOf, AreRefused};
 
 use crate::{Asked, Halt, Plan, Status, Stop, decide, read_words};
 use agg_base::Words;
@@ -71,18 +73,50 @@ fn say_report<S: Shelf>(shelf: &mut S, plan: &Plan) -> Status
     }
 }
 
+// Makes the file of the map hold it, where there is one, and ends the run where that fails.
+fn put_map<S: Shelf>(shelf: &mut S, name: &str, map: &Option<Vec<u8>>) -> Result<(), Status>
+    ensures stored { OnOk result (S.files shelf.new ≡ all_stored (S.files shelf.old) (map_due name.now (text_of map.now))) }
+    ensures partly { OnErr result (IsPartlyPut (S.files shelf.old) (S.files shelf.new) (map_due name.now (text_of map.now))) }
+    ensures said { S.said shelf.new ≡ S.said shelf.old }
+    ensures fetches { S.fetch_faults shelf.new ≡ S.fetch_faults shelf.old }
+    ensures missed { S.missed shelf.new ≡ S.missed shelf.old }
+    ensures later { S.put_faults shelf.old ≤ S.put_faults shelf.new }
+    ensures error { IfErr result (λ status. (status ≡ Status.WriteFault) ⊎ (status ≡ Status.Memory)) }
+    ensures cause { IsErrOf result Status.WriteFault → Rose (S.put_faults shelf.old) (S.put_faults shelf.new) }
+{
+    match map {
+        Some(text) => put_out(shelf, name, text),
+        None => Ok(()),
+    }
+}
+
+// Stores what is due.
+fn put_all<S: Shelf>(shelf: &mut S, asked: &Asked, plan: &Plan) -> Result<(), Status>
+    ensures stored { OnOk result (S.files shelf.new ≡ all_stored (S.files shelf.old) (due asked.now plan.now)) }
+    ensures partly { OnErr result (IsPartlyPut (S.files shelf.old) (S.files shelf.new) (due asked.now plan.now)) }
+    ensures said { S.said shelf.new ≡ S.said shelf.old }
+    ensures fetches { S.fetch_faults shelf.new ≡ S.fetch_faults shelf.old }
+    ensures missed { S.missed shelf.new ≡ S.missed shelf.old }
+    ensures later { S.put_faults shelf.old ≤ S.put_faults shelf.new }
+    ensures error { IfErr result (λ status. (status ≡ Status.WriteFault) ⊎ (status ≡ Status.Memory)) }
+    ensures cause { IsErrOf result Status.WriteFault → Rose (S.put_faults shelf.old) (S.put_faults shelf.new) }
+{
+    put_out(shelf, asked.certificate, &plan.certificate)?;
+    put_map(shelf, asked.out, &plan.map)
+}
+
 // Stores what is due, and then says the report.
 fn carry_out<S: Shelf>(shelf: &mut S, asked: &Asked, plan: &Plan) -> Status
     ensures status { MayEndAs (status_of plan.now.kind) result }
-    ensures stored { result ≡ status_of plan.now.kind → S.files shelf.new ≡ all_stored (S.files shelf.old) ((asked.now.certificate.now, plan.now.certificate.items) ∷ []) }
+    ensures stored { result ≡ status_of plan.now.kind → S.files shelf.new ≡ all_stored (S.files shelf.old) (due asked.now plan.now) }
     ensures heard { result ≡ status_of plan.now.kind → S.said shelf.new ≡ spoken (S.said shelf.old) plan.now.report.items }
     ensures partly_heard { (S.said shelf.new ≡ S.said shelf.old) ⊎ IsPartlySpoken (S.said shelf.old) (S.said shelf.new) plan.now.report.items }
-    ensures partly { IsPartlyPut (S.files shelf.old) (S.files shelf.new) ((asked.now.certificate.now, plan.now.certificate.items) ∷ []) }
+    ensures partly { IsPartlyPut (S.files shelf.old) (S.files shelf.new) (due asked.now plan.now) }
     ensures fetches { S.fetch_faults shelf.new ≡ S.fetch_faults shelf.old }
     ensures missed { S.missed shelf.new ≡ S.missed shelf.old }
     ensures cause { result ≡ Status.WriteFault → Rose (S.put_faults shelf.old) (S.put_faults shelf.new) }
 {
-    if let Err(status) = put_out(shelf, asked.certificate, &plan.certificate) {
+    if let Err(status) = put_all(shelf, asked, plan) {
         return status;
     }
     say_report(shelf, plan)

@@ -1,0 +1,11 @@
+-- What a plan puts out.
+use Rattle.std.specs.Prelude.{List, ◌∷◌}
+use Rattle.generalise_core.specs.Puts.{Due}
+use Rattle.generalise_core.specs.Runs.{map_due}
+use Rattle.generalise_core.specs.Texts.{text_of}
+use Rattle.generalise_core.specs.declared.plan.Plan.{Plan}
+use Rattle.generalise_core.specs.declared.words.Asked.{Asked}
+
+-- the certificate, and then the map where there is one
+abbrev pub due : Asked → Plan → List Due
+due asked plan = (asked.certificate.now, plan.certificate.items) ∷ map_due asked.out.now (text_of plan.map)
