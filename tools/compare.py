@@ -1,17 +1,19 @@
 #!/usr/bin/env python3
 """Compares the program with the second implementation on random maps and tables: compare.py PROGRAM RUNS SEED
 
-A third of the texts are changed at random places, so that refusals are compared too. It prints the first run that differs, or how many
-agreed, by exit code. It takes no part in any proof.
+A third of the texts are changed at random places, so that refusals are compared too. The written map is held against the certificate: the
+middle of each cell lies in the drawn region of the cell's area and in no other, and in none where there is no data. It prints the first run
+that differs, or how many agreed, by exit code. It takes no part in any proof.
 """
 import collections
+import json
 import os
 import random
 import subprocess
 import sys
 import tempfile
 
-from reference import answer
+from reference import answer, patches_of, read_grid
 
 
 def random_grid(dice):
@@ -74,8 +76,61 @@ def run(program, folder, map_text, table_text):
             os.remove(names[name])
     words = [program, "generalise", "grid"] + [names[name] for name in "mtoc"] + ["--splits", "0"]
     done = subprocess.run(words, capture_output=True, check=False)
-    kept = open(names["c"], "rb").read() if os.path.exists(names["c"]) else None
-    return done.returncode, done.stdout, kept
+    kept = [open(names[name], "rb").read() if os.path.exists(names[name]) else None for name in "co"]
+    return (done.returncode, done.stdout, kept[0]), kept[1]
+
+
+def rings_of(topology):
+    """The rings of each drawn region as lists of points in cells; None where a ring is not closed or visits a point twice."""
+    arcs = []
+    for arc in topology["arcs"]:
+        x = y = 0
+        points = []
+        for dx, dy in arc:
+            x, y = x + dx, y + dy
+            points.append((x, y))
+        arcs.append(points)
+    regions = []
+    for geometry in topology["objects"]["regions"]["geometries"]:
+        rings = []
+        for indexes in (ring for polygon in geometry["arcs"] for ring in polygon):
+            parts = [arcs[i] if i >= 0 else arcs[-i - 1][::-1] for i in indexes]
+            if any(part[-1] != after[0] for part, after in zip(parts, parts[1:] + parts[:1])):
+                return None
+            points = [point for part in parts for point in part[:-1]]
+            if len(set(points)) != len(points):
+                return None
+            rings.append(points)
+        regions.append(rings)
+    return regions
+
+
+def holds(rings, x, y):
+    """Whether an odd number of upright steps stand to the right of the point, which is the middle of a cell."""
+    crossed = 0
+    for ring in rings:
+        for (ax, ay), (bx, by) in zip(ring, ring[1:] + ring[:1]):
+            if ax == bx and ax > x and min(ay, by) < y < max(ay, by):
+                crossed += 1
+    return crossed % 2 == 1
+
+
+def is_drawn(map_text, certificate, out):
+    """Whether the written map has the regions of the certificate, cell by cell."""
+    if b"status none" in certificate:
+        return out is None
+    columns, rows, nodata, cells = read_grid(map_text)
+    patch, _ = patches_of(columns, rows, nodata, cells)
+    region_of = [int(line[2:]) for line in certificate.decode().split("\n") if line.startswith("a ")]
+    drawn = rings_of(json.loads(out))
+    if drawn is None:
+        return False
+    for place, area in enumerate(patch):
+        x, y = place % columns + 0.5, rows - place // columns - 0.5
+        inside = [r for r, rings in enumerate(drawn) if holds(rings, x, y)]
+        if inside != ([] if area is None else [region_of[area]]):
+            return False
+    return True
 
 
 def main():
@@ -88,9 +143,9 @@ def main():
                 map_text = changed(dice, map_text)
             if dice.random() < 0.2:
                 table_text = changed(dice, table_text)
-            got, due = run(program, folder, map_text, table_text), answer(map_text, table_text)
-            if got != due:
-                print(f"map {map_text!r}\ntable {table_text!r}\nprogram {got!r}\nreference {due!r}")
+            (got, out), due = run(program, folder, map_text, table_text), answer(map_text, table_text)
+            if got != due or (out is not None if got[2] is None else not is_drawn(map_text, got[2], out)):
+                print(f"map {map_text!r}\ntable {table_text!r}\nprogram {got!r}\nmap {out!r}\nreference {due!r}")
                 sys.exit(1)
             codes[got[0], got[1].split(b"\n")[0].decode() if got[0] == 65 else ""] += 1
     for (code, line), count in sorted(codes.items()):

@@ -1,0 +1,93 @@
+#!/usr/bin/env python3
+"""Draws a map and its written result side by side: picture.py MAP OUT SVG
+
+MAP is an ESRI ASCII grid, OUT the TopoJSON that the program wrote for it. Each class has one colour, the same on both sides. It takes no part
+in any proof.
+"""
+import json
+import sys
+
+COLOURS = ["#3d7a4b", "#a9cf7f", "#e8d27a", "#7fb8b0", "#f2e6c9", "#c0504d", "#8f7fb8", "#b0b0b0", "#5b8bc0", "#d99a5b", "#6f6f3f", "#d8a8c8"]
+SIDE = 6
+GAP = 24
+
+
+def read_grid(path):
+    head, cells = {}, []
+    with open(path, encoding="ascii") as file:
+        for line in file:
+            words = line.split()
+            if words and words[0][0].isalpha():
+                head[words[0].lower()] = words[1]
+            else:
+                cells += [int(word.split(".")[0]) for word in words]
+    nodata = int(head.get("nodata_value", "-9999").split(".")[0])
+    return int(head["ncols"]), int(head["nrows"]), nodata, cells
+
+
+def arcs_of(topology):
+    """The arcs as lists of points in cells: relative where there is a transform."""
+    arcs = []
+    for arc in topology["arcs"]:
+        x = y = 0
+        points = []
+        for dx, dy in arc:
+            x, y = (x + dx, y + dy) if "transform" in topology else (dx, dy)
+            points.append((x, y))
+        arcs.append(points)
+    return arcs
+
+
+def ring_of(arcs, indexes):
+    points = []
+    for index in indexes:
+        arc = arcs[index] if index >= 0 else arcs[-index - 1][::-1]
+        points += arc[:-1]
+    return points
+
+
+def path_of(rings, left, rows):
+    parts = []
+    for ring in rings:
+        corners = [f"{left + x * SIDE} {(rows - y) * SIDE}" for x, y in ring]
+        parts.append("M" + "L".join(corners) + "Z")
+    return "".join(parts)
+
+
+def cell_shapes(grid, colour_of):
+    columns, rows, nodata, cells = grid
+    for row in range(rows):
+        column = 0
+        while column < columns:
+            value, first = cells[row * columns + column], column
+            while column < columns and cells[row * columns + column] == value:
+                column += 1
+            if value != nodata:
+                yield f'<path fill="{colour_of[str(value)]}" d="M{first * SIDE} {row * SIDE}h{(column - first) * SIDE}v{SIDE}h-{(column - first) * SIDE}z"/>'
+
+
+def region_shapes(topology, colour_of, left, rows):
+    arcs = arcs_of(topology)
+    for geometry in topology["objects"]["regions"]["geometries"]:
+        rings = [ring_of(arcs, ring) for polygon in geometry["arcs"] for ring in polygon]
+        colour = colour_of[geometry["properties"]["class"]]
+        yield f'<path fill="{colour}" fill-rule="evenodd" stroke="#303030" d="{path_of(rings, left, rows)}"/>'
+
+
+def main():
+    grid = read_grid(sys.argv[1])
+    with open(sys.argv[2], encoding="utf-8") as file:
+        topology = json.load(file)
+    columns, rows, nodata, cells = grid
+    classes = sorted({cell for cell in cells if cell != nodata})
+    colour_of = {str(value): COLOURS[i % len(COLOURS)] for i, value in enumerate(classes)}
+    left = columns * SIDE + GAP
+    width, height = left + columns * SIDE, rows * SIDE
+    shapes = list(cell_shapes(grid, colour_of)) + list(region_shapes(topology, colour_of, left, rows))
+    with open(sys.argv[3], "w", encoding="ascii") as file:
+        file.write(f'<svg xmlns="http://www.w3.org/2000/svg" viewBox="-2 -2 {width + 4} {height + 4}" width="{width + 4}" height="{height + 4}">\n')
+        file.write(f'<rect x="-2" y="-2" width="{width + 4}" height="{height + 4}" fill="#dfe9f0"/>\n')
+        file.write('<g shape-rendering="crispEdges">\n' + "\n".join(shapes) + "\n</g>\n</svg>\n")
+
+
+main()
