@@ -298,6 +298,19 @@ fn a_map_without_areas_is_optimal(rt: HostRuntime) -> Result<(), Fail> {
 const USAGE: &[u8] =
     b"usage: generalise FORMAT MAP TABLE OUT CERT [--splits N] [--class NAME] [--object NAME] | check FORMAT MAP TABLE OUT CERT [--class NAME] [--object NAME] | make COLUMNS ROWS SEED MAP TABLE OUT CERT [--splits N]\n";
 
+#[test]
+fn holes_may_touch_at_a_corner(rt: HostRuntime) -> Result<(), Fail> {
+    let map =
+        b"ncols 4\nnrows 4\nxllcorner 0\nyllcorner 0\ncellsize 1\n1 1 1 1\n1 -9999 1 1\n1 1 -9999 1\n1 1 1 1\n";
+    let end = ending_of(&rt, rt.alloc(), &FORM, map, TABLE, &[])?;
+    assert_eq!(rt; end.code, 0);
+    assert_eq!(rt;
+        bytes_of(&end.map),
+        b"{\"type\":\"Topology\",\"transform\":{\"scale\":[1,1],\"translate\":[0,0]},\"objects\":{\"regions\":{\"type\":\"GeometryCollection\",\"geometries\":[{\"type\":\"MultiPolygon\",\"id\":0,\"properties\":{\"class\":\"1\"},\"arcs\":[[[0],[-2],[2]]]}]}},\"arcs\":[[[0,0],[1,0],[1,0],[1,0],[1,0],[0,1],[0,1],[0,1],[0,1],[-1,0],[-1,0],[-1,0],[-1,0],[0,-1],[0,-1],[0,-1],[0,-1]],[[2,2],[0,-1],[1,0],[0,1],[-1,0]],[[2,2],[-1,0],[0,1],[1,0],[0,-1]]]}\n".as_slice()
+    );
+    Ok(())
+}
+
 // Whether these words are in no form.
 fn is_usage(rt: &impl Abort, alloc: Global, words: &[&str]) -> Result<bool, NoMemory> {
     stops(rt, alloc, words, MAP, TABLE, 64, USAGE)
