@@ -1,7 +1,7 @@
 #!/usr/bin/env python3
 """Compares the program with the second implementation on random maps and tables: compare.py PROGRAM RUNS SEED
 
-A third of the texts are changed at random places, so that refusals are compared too. The written map is held against the certificate: the
+In about a third of the runs a text is changed at random places, so that refusals are compared too. The written map is held against the certificate: the
 middle of each cell lies in the drawn region of the cell's area and in no other, and in none where there is no data. It prints the first run
 that differs, or how many agreed, by exit code. It takes no part in any proof.
 """
@@ -14,6 +14,7 @@ import sys
 import tempfile
 
 from reference import answer, patches_of, read_grid
+from topology import regions, ring_of
 
 
 def random_grid(dice):
@@ -82,27 +83,15 @@ def run(program, folder, map_text, table_text):
 
 def rings_of(topology):
     """The rings of each drawn region as lists of points in cells; None where a ring is not closed or visits a point twice."""
-    arcs = []
-    for arc in topology["arcs"]:
-        x = y = 0
-        points = []
-        for dx, dy in arc:
-            x, y = x + dx, y + dy
-            points.append((x, y))
-        arcs.append(points)
-    regions = []
-    for geometry in topology["objects"]["regions"]["geometries"]:
-        rings = []
-        for indexes in (ring for polygon in geometry["arcs"] for ring in polygon):
-            parts = [arcs[i] if i >= 0 else arcs[-i - 1][::-1] for i in indexes]
-            if any(part[-1] != after[0] for part, after in zip(parts, parts[1:] + parts[:1])):
+    drawn = []
+    for _, rings in regions(topology):
+        for paths in rings:
+            points = ring_of(paths)
+            joined = all(path[-1] == after[0] for path, after in zip(paths, paths[1:] + paths[:1]))
+            if not joined or len(set(points)) != len(points):
                 return None
-            points = [point for part in parts for point in part[:-1]]
-            if len(set(points)) != len(points):
-                return None
-            rings.append(points)
-        regions.append(rings)
-    return regions
+        drawn.append([ring_of(paths) for paths in rings])
+    return drawn
 
 
 def holds(rings, x, y):

@@ -7,6 +7,8 @@ in any proof.
 import json
 import sys
 
+from topology import regions, ring_of
+
 COLOURS = ["#3d7a4b", "#a9cf7f", "#e8d27a", "#7fb8b0", "#f2e6c9", "#c0504d", "#8f7fb8", "#b0b0b0", "#5b8bc0", "#d99a5b", "#6f6f3f", "#d8a8c8"]
 SIDE = 6
 GAP = 24
@@ -23,27 +25,6 @@ def read_grid(path):
                 cells += [int(word.split(".")[0]) for word in words]
     nodata = int(head.get("nodata_value", "-9999").split(".")[0])
     return int(head["ncols"]), int(head["nrows"]), nodata, cells
-
-
-def arcs_of(topology):
-    """The arcs as lists of points in cells: relative where there is a transform."""
-    arcs = []
-    for arc in topology["arcs"]:
-        x = y = 0
-        points = []
-        for dx, dy in arc:
-            x, y = (x + dx, y + dy) if "transform" in topology else (dx, dy)
-            points.append((x, y))
-        arcs.append(points)
-    return arcs
-
-
-def ring_of(arcs, indexes):
-    points = []
-    for index in indexes:
-        arc = arcs[index] if index >= 0 else arcs[-index - 1][::-1]
-        points += arc[:-1]
-    return points
 
 
 def path_of(rings, left, rows):
@@ -67,11 +48,9 @@ def cell_shapes(grid, colour_of):
 
 
 def region_shapes(topology, colour_of, left, rows):
-    arcs = arcs_of(topology)
-    for geometry in topology["objects"]["regions"]["geometries"]:
-        rings = [ring_of(arcs, ring) for polygon in geometry["arcs"] for ring in polygon]
-        colour = colour_of[geometry["properties"]["class"]]
-        yield f'<path fill="{colour}" fill-rule="evenodd" stroke="#303030" d="{path_of(rings, left, rows)}"/>'
+    for name, rings in regions(topology):
+        path = path_of([ring_of(paths) for paths in rings], left, rows)
+        yield f'<path fill="{colour_of[name]}" fill-rule="evenodd" stroke="#303030" d="{path}"/>'
 
 
 def main():
