@@ -13,7 +13,7 @@ mod text;
 
 pub use line::{Ending, Line, Lines};
 pub use numeral::{Whole, read_whole, whole_law};
-pub use root::isqrt;
+pub use root::{isqrt, root_law};
 pub use signed::{print_signed, read_signed, signed_law};
 pub use start::lines;
 pub use text::{NoMemory, Text, Words};
