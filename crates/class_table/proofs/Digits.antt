@@ -1,27 +1,14 @@
 -- Numbers by their digits.
 use Rattle.std.proofs.Common.{◌≡◌, ℕ, ◌≤◌, ◌&&◌, nat_le, cond, List, Option, Some, None, IfSome, IfNone, length, Bool, true, false, Ok, Result, arith, sym, ap, refl, ◌∙◌}
-use Rattle.std.specs.Bool.{Decides}
-use Rattle.std.specs.Str.{all_ascii_digits, IsUtf8}
+use Rattle.std.specs.Str.{all_ascii_digits}
 use Rattle.std.specs.Str.Parse.{AllDigits, digits_value, ParsesUnsigned}
 use Rattle.std.proofs.lemmas.Bool.Decides.{nat_tests}
-use Rattle.std.proofs.lemmas.Fmt.{IsAscii-from_digits}
-use Rattle.std.proofs.lemmas.Str.{IsUtf8-from_ascii}
-use Rattle.std.proofs.lemmas.Str.Parse.{IsNumeralModel, numerals_by_value, tells_digits, tells_all_ascii_digits, parse_gives, digits_value_short}
+use Rattle.std.proofs.lemmas.Str.Parse.{IsNumeralModel, numerals_by_value, tells_digits, parse_gives, digits_value_short}
+use Rattle.text_words.proofs.Digits.{digits_tested}
 use Rattle.class_table.specs.Numbers.{IsNumber, is_number, is_within, number_in}
 
 own : IsNumeralModel (AllDigits 10) (digits_value 10)
 own = numerals_by_value (AllDigits 10) tells_digits
-
-tested : IsNumeralModel (λ ds. all_ascii_digits ds ≡ true) (digits_value 10)
-tested = numerals_by_value (λ ds. all_ascii_digits ds ≡ true) tells_all_ascii_digits
-
--- each byte passes the test of digits where there are digits alone
-pub digits_decided : (r : Bool) (ds : List ℕ) → r ≡ all_ascii_digits ds → Decides r (AllDigits 10 ds)
-digits_decided r ds e = (λ is. tested.to ds (sym e ∙ is), λ all. e ∙ tested.from ds all)
-
--- digits are text
-pub digits_are_text : (ds : List ℕ) → AllDigits 10 ds → IsUtf8 ds
-digits_are_text ds all = IsUtf8-from_ascii ds (IsAscii-from_digits ds all)
 
 -- up to 31 digits have a value that 128 bits hold, and it is what `parse` gives
 pub digits_parse : {E : Type 0} (ds : List ℕ) (r : Result ℕ E) → ParsesUnsigned 128 10 ds r → AllDigits 10 ds → 1 ≤ length ds → length ds ≤ 31 → r ≡ Ok (digits_value 10 ds)
@@ -51,7 +38,7 @@ number_of_test least most ds true n e is =
     record {
       some = le_test _ _ sizes.0;
       few = le_test _ _ sizes.1;
-      all = tested.to ds first.1;
+      all = digits_tested.to ds first.1;
       value = value;
       not_less = omega arith;
       not_more = omega arith;
@@ -66,7 +53,7 @@ number_in_is least most ds n is = number_of_test least most ds _ n refl is
 number_test_holds : (least most : ℕ) (ds : List ℕ) (n : ℕ) → IsNumber least most ds n → (is_number ds && is_within least most (digits_value 10 ds)) ≡ true
 number_test_holds least most ds n is =
     let value = is.value in let low = is.not_less in let high = is.not_more in
-    rw (le_holds 1 (length ds) is.some, le_holds (length ds) 31 is.few, tested.from ds is.all, le_holds least (digits_value 10 ds) (omega arith), le_holds (digits_value 10 ds) most (omega arith)) refl
+    rw (le_holds 1 (length ds) is.some, le_holds (length ds) 31 is.few, digits_tested.from ds is.all, le_holds least (digits_value 10 ds) (omega arith), le_holds (digits_value 10 ds) most (omega arith)) refl
 
 -- what follows the rule is the number in the range
 pub number_is_in : (least most : ℕ) (ds : List ℕ) (n : ℕ) → IsNumber least most ds n → number_in least most ds ≡ Some n

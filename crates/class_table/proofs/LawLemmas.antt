@@ -1,9 +1,11 @@
 -- A text spells a table or has a first fault, and never both or two.
-use Rattle.std.proofs.Common.{◌≡◌, ◌↔◌, ℕ, ◌+◌, ◌≤◌, nat_le, Bool, true, false, cond, List, [], ◌∷◌, ◌++◌, length, Result, Ok, Err, inl, inr, ◌⊎◌, ap, refl, ◌∙◌, subst, arith}
+use Rattle.std.proofs.Common.{◌≡◌, ℕ, ◌+◌, ◌≤◌, nat_le, Bool, true, false, cond, List, [], ◌∷◌, ◌++◌, length, Result, Ok, Err, IfErr, inl, inr, ◌⊎◌, ap, refl, ◌∙◌, subst, arith}
 use Rattle.std.proofs.lemmas.Bool.Decides.{nat_tests, Decides-eqb}
 use Rattle.agg_base.specs.Lines.{Row, rows_from}
 use Rattle.class_table.specs.Classes.{Classes, IsClasses}
-use Rattle.class_table.specs.Reading.{Said, nothing_said, table_of, is_whole, ◌then◌, line_says, lines_say, whole, whole_at, reading}
+use Rattle.class_table.specs.Said.{Said, nothing_said, table_of}
+use Rattle.class_table.specs.Reading.{is_whole, ◌then◌, line_says, lines_say, whole, whole_at, reading}
+use Rattle.class_table.specs.Breaks.{BreaksFirst, EndsEarly}
 use Rattle.class_table.specs.Steps.{Adds}
 use Rattle.class_table.specs.Words.{counts}
 use Rattle.class_table.specs.TableTexts.{IsTableText, lines_of}
@@ -13,7 +15,9 @@ use Rattle.class_table.specs.declared.draft.Due.TheVariants.{Head, Scale, Border
 use Rattle.class_table.specs.declared.fault.Why.TheVariants.{Version, End}
 use Rattle.class_table.specs.declared.fault.TableFault.{TableFault}
 use Rattle.class_table.specs.declared.fault.TableFault.TheVariants.{Line}
-use Rattle.class_table.proofs.Steps.{line_ok, line_back}
+use Rattle.class_table.proofs.Steps.{line_ok, line_back, line_passed}
+use Rattle.class_table.proofs.Faulty.{line_fault}
+use Rattle.class_table.proofs.Breaking.{breaks_says, whole_fault, early_says}
 use Rattle.class_table.proofs.Rounds.{then_ok, lines_add, lines_back}
 use Rattle.class_table.proofs.Stages.{body_at, table_adds, adds_table}
 
@@ -71,8 +75,8 @@ fault_read text f is =
     let rows = rows_from 1 text in
     elim is as (λ _. (lines_say nothing_said rows then (λ d. whole d (length rows))) ≡ Err f) [
       | inl at ↦ ap (λ r. r then (λ d. whole d (length rows))) (ap (λ rs. lines_say nothing_said rs) at.lines_are ∙ lines_append at.before (at.line ∷ at.after) nothing_said at.said (lines_back nothing_said at.before at.said at.right)
-          ∙ ap (λ r. r then (λ m. lines_say m at.after)) at.broken)
-      | inr end ↦ ap (λ r. r then (λ d. whole d (length rows))) (lines_back nothing_said rows end.said end.right) ∙ end.early
+          ∙ ap (λ r. r then (λ m. lines_say m at.after)) (breaks_says at.said at.line.number at.line.text f at.counted at.broken))
+      | inr end ↦ ap (λ r. r then (λ d. whole d (length rows))) (lines_back nothing_said rows end.said end.right) ∙ early_says end.said (length rows) f end.early
     ]
 
 record Broken (d : Said) (rows : List Row) (f : TableFault) : Type 0 where
@@ -101,6 +105,13 @@ broken_line d (row ∷ rows) f is =
       | Err g ↦ λ first rest. record { before = []; line = row; after = rows; said = d; lines_are = refl; right = refl; broken = first ∙ rest }
     ] refl is
 
+-- a line with a fault counts
+counted : (d : Said) (number : ℕ) (line : List ℕ) (f : TableFault) → line_says d number line ≡ Err f → counts line ≡ true
+counted d number line f is = elim (counts line) as (λ b. counts line ≡ b → b ≡ true) [
+  | true ↦ λ e. refl
+  | false ↦ λ e. absurd (let passed : line_says d number line ≡ Ok d = line_passed d number line e in cc)
+] refl
+
 same_fault : (f g : TableFault) (r : Result Classes TableFault) → r ≡ Err f → r ≡ Err g → f ≡ g
 same_fault f g r is also = cc
 
@@ -110,9 +121,19 @@ unfolding reading
 read_fault text f is =
     let rows = rows_from 1 text in
     elim (lines_say nothing_said rows) as (λ r. lines_say nothing_said rows ≡ r → (r then (λ d. whole d (length rows))) ≡ Err f → IsFirstFault text f) [
-      | Ok d ↦ λ all end. inr (record { said = d; right = lines_add nothing_said rows d all; early = end })
+      | Ok d ↦ λ all end. inr (record { said = d; right = lines_add nothing_said rows d all; early = subst (λ r. IfErr r (EndsEarly d (length rows))) end (whole_fault d (length rows)) })
       | Err g ↦ λ all end. (let same : g ≡ f = same_fault g f (Err g) refl end in let at = broken_line nothing_said rows f (all ∙ ap (λ h. Err h) same) in
-          inl (record { before = at.before; line = at.line; after = at.after; said = at.said; lines_are = at.lines_are; right = lines_add nothing_said at.before at.said at.right; broken = at.broken }))
+          let counting = counted at.said at.line.number at.line.text f at.broken in
+          inl (record {
+            before = at.before;
+            line = at.line;
+            after = at.after;
+            said = at.said;
+            lines_are = at.lines_are;
+            right = lines_add nothing_said at.before at.said at.right;
+            counted = counting;
+            broken = subst (λ r. IfErr r (BreaksFirst at.said at.line.number at.line.text)) at.broken (line_fault at.said at.line.number at.line.text counting);
+          }))
     ] refl is
 
 -- the laws
@@ -132,5 +153,19 @@ some_answer text = elim (reading text) as (λ r. reading text ≡ r → ((t : Cl
   | Err f ↦ λ is. inr (f, read_fault text f is)
 ] refl
 
-pub right_line : (d e : Said) (number : ℕ) (line : List ℕ) → counts line ≡ true → (line_says d number line ≡ Ok e) ↔ Adds d line e
-right_line d e number line due = (line_ok d number line e due, line_back d number line e due)
+-- A line that counts is right, or breaks a rule first.
+pub right_or_broken : (d : Said) (number : ℕ) (line : List ℕ) → counts line ≡ true → ((e : Said) × Adds d line e) ⊎ ((f : TableFault) × BreaksFirst d number line f)
+right_or_broken d number line due = elim (line_says d number line) as (λ r. line_says d number line ≡ r → ((e : Said) × Adds d line e) ⊎ ((f : TableFault) × BreaksFirst d number line f)) [
+  | Ok e ↦ λ is. inl (e, line_ok d number line e due is)
+  | Err f ↦ λ is. inr (f, subst (λ r. IfErr r (BreaksFirst d number line)) is (line_fault d number line due))
+] refl
+
+pub never_both : (d e : Said) (number : ℕ) (line : List ℕ) (f : TableFault) → counts line ≡ true → Adds d line e → ¬ BreaksFirst d number line f
+never_both d e number line f due adds broken =
+    let a : line_says d number line ≡ Ok e = line_back d number line e due adds in let b : line_says d number line ≡ Err f = breaks_says d number line f due broken in cc
+
+same_said_fault : (f g : TableFault) (r : Result Said TableFault) → r ≡ Err f → r ≡ Err g → f ≡ g
+same_said_fault f g r is also = cc
+
+pub one_rule : (d : Said) (number : ℕ) (line : List ℕ) (f g : TableFault) → counts line ≡ true → BreaksFirst d number line f → BreaksFirst d number line g → f ≡ g
+one_rule d number line f g due is also = same_said_fault f g (line_says d number line) (breaks_says d number line f due is) (breaks_says d number line g due also)

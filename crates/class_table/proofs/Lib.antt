@@ -4,5 +4,7 @@ pub mod Steps
 pub mod NameLemmas
 pub mod Rounds
 pub mod Stages
+pub mod Faulty
+pub mod Breaking
 pub mod LawLemmas
 pub mod ReaderLemmas

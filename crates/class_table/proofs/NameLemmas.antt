@@ -6,7 +6,7 @@ use Rattle.std.proofs.lemmas.Bool.Decides.{nat_tests}
 use Rattle.std.proofs.lemmas.List.{append_assoc, append-nil, drop_more, drop_all}
 use Rattle.std.proofs.lemmas.Str.{IsUtf8-from_is_utf8, is_utf8-from_IsUtf8}
 use Rattle.class_table.specs.Numbers.{number_in}
-use Rattle.class_table.specs.Words.{word}
+use Rattle.text_words.specs.Words.{word}
 use Rattle.class_table.specs.Reading.{distances_in, push_front}
 use Rattle.class_table.specs.Names.{IsName, is_name}
 

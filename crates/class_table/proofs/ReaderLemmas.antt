@@ -6,7 +6,8 @@ use Rattle.std.proofs.lemmas.List.Sums.{count_by-le-length}
 use Rattle.agg_base.specs.Lines.{Row, rows_of_parts, rows_from}
 use Rattle.agg_base.specs.declared.line.Ending.TheVariants.{Missing}
 use Rattle.class_table.specs.Classes.{Classes, IsClasses}
-use Rattle.class_table.specs.Reading.{Said, nothing_said, ◌then◌, lines_say, whole, reading}
+use Rattle.class_table.specs.Said.{Said, nothing_said}
+use Rattle.class_table.specs.Reading.{◌then◌, lines_say, whole, reading}
 use Rattle.class_table.specs.TableTexts.{IsTableText}
 use Rattle.class_table.specs.Faults.{IsFaultOf, IsFirstFault}
 use Rattle.class_table.specs.Gives.{Gives}

@@ -12,7 +12,8 @@ use Rattle.class_table.specs.Classes.{IsClasses}
 use Rattle.class_table.specs.Names.{IsName}
 use Rattle.class_table.specs.Numbers.{IsNumber}
 use Rattle.class_table.specs.Words.{counts}
-use Rattle.class_table.specs.Reading.{Said, nothing_said, table_of, is_among, is_whole, ◌then◌, line_says, lines_say}
+use Rattle.class_table.specs.Said.{Said, nothing_said, table_of, is_among}
+use Rattle.class_table.specs.Reading.{is_whole, ◌then◌, line_says, lines_say}
 use Rattle.class_table.specs.TableTexts.{lines_of}
 use Rattle.class_table.specs.Steps.{AddsUnit, AddsBorder, AddsClass, AddsRow, AddsDue, AddAll}
 use Rattle.class_table.specs.declared.draft.Due.{Due}

@@ -4,7 +4,8 @@ use Rattle.std.specs.List.{AllZip, concat}
 use Rattle.std.proofs.lemmas.Bool.Decides.{Decides-eqb}
 use Rattle.std.proofs.lemmas.List.{length-append, append_assoc, append-nil, get_or_append_left, get_or_at}
 use Rattle.class_table.specs.Classes.{Classes, IsClasses}
-use Rattle.class_table.specs.Reading.{Said, nothing_said, table_of, is_among, is_whole}
+use Rattle.class_table.specs.Said.{Said, nothing_said, table_of, is_among}
+use Rattle.class_table.specs.Reading.{is_whole}
 use Rattle.class_table.specs.TableTexts.{IsVersionLine, IsBorderLine, IsRowLine, AreUnitLines, AreClassLines, AreTableLines}
 use Rattle.class_table.specs.Steps.{AddAll}
 use Rattle.class_table.specs.declared.draft.Due.TheVariants.{Head, Scale, Border, Body}

@@ -6,8 +6,10 @@ use Rattle.std.proofs.lemmas.Bool.Decides.{nat_tests, Decides-eqb}
 use Rattle.std.proofs.lemmas.Slice.Eq.{bytes_eq-Decides}
 use Rattle.class_table.specs.Names.{IsName, is_name}
 use Rattle.class_table.specs.Numbers.{IsNumber, number_in}
-use Rattle.class_table.specs.Words.{words, word, counts, name_in}
-use Rattle.class_table.specs.Reading.{Said, is_version, is_among, if_number, breaks, version_line, unit_line, border_line, scale_line, named_class, class_line, distances_in, push_front, row_line, body_line, due_line, line_says}
+use Rattle.text_words.specs.Words.{words, word}
+use Rattle.class_table.specs.Words.{counts, name_in}
+use Rattle.class_table.specs.Said.{Said, is_among}
+use Rattle.class_table.specs.Reading.{is_version, if_number, breaks, version_line, unit_line, border_line, scale_line, named_class, class_line, distances_in, push_front, row_line, body_line, due_line, line_says}
 use Rattle.class_table.specs.TableTexts.{IsVersionLine}
 use Rattle.class_table.specs.Steps.{AddsUnit, AddsBorder, AddsClass, AddsRow, AddsDue, Adds}
 use Rattle.class_table.specs.declared.draft.Due.{Due}
@@ -38,41 +40,44 @@ pub numbered : {X Y : Type 0} (n : ℕ) (o : Option X) (more : X → Result Y Ta
 numbered n None more y e = absurd (let never : Err (Line n Number) ≡ Ok y = e in cc)
 numbered n (Some x) more y e = (x, refl, e)
 
-same_text : (a b : List ℕ) → bytes_eq a b ≡ true → a ≡ b
+pub same_text : (a b : List ℕ) → bytes_eq a b ≡ true → a ≡ b
 same_text a b e = (bytes_eq-Decides a b).0 e
 
-eq_test : (a b : ℕ) → (a == b) ≡ true → a ≡ b
+pub eq_test : (a b : ℕ) → (a == b) ≡ true → a ≡ b
 eq_test a b e = (Decides-eqb a b).0 e
 
-lt_test : (a b : ℕ) → nat_lt a b ≡ true → a < b
+pub lt_test : (a b : ℕ) → nat_lt a b ≡ true → a < b
 lt_test a b e = grind (arith, nat_tests)
 
-not_lt_test : (a b : ℕ) → nat_lt a b ≡ false → b ≤ a
+pub not_lt_test : (a b : ℕ) → nat_lt a b ≡ false → b ≤ a
 not_lt_test a b e = grind (arith, nat_tests)
 
-not_le_test : (a b : ℕ) → nat_le a b ≡ false → b < a
+pub le_test : (a b : ℕ) → nat_le a b ≡ true → a ≤ b
+le_test a b e = grind (arith, nat_tests)
+
+pub not_le_test : (a b : ℕ) → nat_le a b ≡ false → b < a
 not_le_test a b e = grind (arith, nat_tests)
 
 -- words
 
-one_word : (parts : List (List ℕ)) (a : List ℕ) → 1 ≤ length parts → word parts 0 ≡ a → parts ≡ a ∷ drop 1 parts
+pub one_word : (parts : List (List ℕ)) (a : List ℕ) → 1 ≤ length parts → word parts 0 ≡ a → parts ≡ a ∷ drop 1 parts
 one_word [] a some e = absurd (omega arith)
 one_word (x ∷ parts) a some e = ap (λ w. w ∷ parts) e
 
-two_words : (parts : List (List ℕ)) → length parts ≡ 2 → parts ≡ word parts 0 ∷ word parts 1 ∷ []
+pub two_words : (parts : List (List ℕ)) → length parts ≡ 2 → parts ≡ word parts 0 ∷ word parts 1 ∷ []
 two_words [] e = absurd (omega arith)
 two_words (x ∷ []) e = absurd (omega arith)
 two_words (x ∷ y ∷ []) e = refl
 two_words (x ∷ y ∷ z ∷ parts) e = absurd (omega arith)
 
-three_words : (parts : List (List ℕ)) → length parts ≡ 3 → parts ≡ word parts 0 ∷ word parts 1 ∷ word parts 2 ∷ []
+pub three_words : (parts : List (List ℕ)) → length parts ≡ 3 → parts ≡ word parts 0 ∷ word parts 1 ∷ word parts 2 ∷ []
 three_words [] e = absurd (omega arith)
 three_words (x ∷ []) e = absurd (omega arith)
 three_words (x ∷ y ∷ []) e = absurd (omega arith)
 three_words (x ∷ y ∷ z ∷ []) e = refl
 three_words (x ∷ y ∷ z ∷ w ∷ parts) e = absurd (omega arith)
 
-some_words : (parts : List (List ℕ)) → 3 ≤ length parts → parts ≡ word parts 0 ∷ word parts 1 ∷ word parts 2 ∷ drop 3 parts
+pub some_words : (parts : List (List ℕ)) → 3 ≤ length parts → parts ≡ word parts 0 ∷ word parts 1 ∷ word parts 2 ∷ drop 3 parts
 some_words [] e = absurd (omega arith)
 some_words (x ∷ []) e = absurd (omega arith)
 some_words (x ∷ y ∷ []) e = absurd (omega arith)
@@ -80,16 +85,20 @@ some_words (x ∷ y ∷ z ∷ parts) e = refl
 
 -- the version
 
-version_ok : (d : Said) (n : ℕ) (line : List ℕ) (e : Said) → version_line d n (words line) ≡ Ok e → IsVersionLine line × (e ≡ record d { due = Scale })
-unfolding version_line
-version_ok d n line e is =
+pub version_of_test : (line : List ℕ) → is_version (words line) ≡ true → IsVersionLine line
+version_of_test line is =
     let parts = words line in
-    let choice = taken (is_version parts) (Ok (record d { due = Scale })) _ e is in
-    let tests = both ((length parts == 2) && bytes_eq (word parts 0) (codes "classes")) (bytes_eq (word parts 1) (codes "1")) choice.0 in
+    let tests = both ((length parts == 2) && bytes_eq (word parts 0) (codes "classes")) (bytes_eq (word parts 1) (codes "1")) is in
     let first = both (length parts == 2) (bytes_eq (word parts 0) (codes "classes")) tests.0 in
     let a = same_text (word parts 0) (codes "classes") first.1 in
     let b = same_text (word parts 1) (codes "1") tests.1 in
-    (two_words parts (eq_test (length parts) 2 first.0) ∙ ap (λ w. w ∷ word parts 1 ∷ []) a ∙ ap (λ w. codes "classes" ∷ w ∷ []) b, let same = choice.1 in cc)
+    two_words parts (eq_test (length parts) 2 first.0) ∙ ap (λ w. w ∷ word parts 1 ∷ []) a ∙ ap (λ w. codes "classes" ∷ w ∷ []) b
+
+version_ok : (d : Said) (n : ℕ) (line : List ℕ) (e : Said) → version_line d n (words line) ≡ Ok e → IsVersionLine line × (e ≡ record d { due = Scale })
+unfolding version_line
+version_ok d n line e is =
+    let choice = taken (is_version (words line)) (Ok (record d { due = Scale })) _ e is in
+    (version_of_test line choice.0, let same = choice.1 in cc)
 
 version_back : (d : Said) (n : ℕ) (line : List ℕ) (e : Said) → IsVersionLine line → e ≡ record d { due = Scale } → version_line d n (words line) ≡ Ok e
 unfolding version_line
@@ -186,16 +195,16 @@ class_ok d n line e head rows is =
       then_is = named.2;
     }
 
-le_false : (a b : ℕ) → b < a → nat_le a b ≡ false
+pub le_false : (a b : ℕ) → b < a → nat_le a b ≡ false
 le_false a b l = grind (arith, nat_tests)
 
-lt_true : (a b : ℕ) → a < b → nat_lt a b ≡ true
+pub lt_true : (a b : ℕ) → a < b → nat_lt a b ≡ true
 lt_true a b l = grind (arith, nat_tests)
 
-lt_false : (a b : ℕ) → b ≤ a → nat_lt a b ≡ false
+pub lt_false : (a b : ℕ) → b ≤ a → nat_lt a b ≡ false
 lt_false a b l = grind (arith, nat_tests)
 
-eq_true : (a b : ℕ) → a ≡ b → (a == b) ≡ true
+pub eq_true : (a b : ℕ) → a ≡ b → (a == b) ≡ true
 eq_true a b e = (Decides-eqb a b).1 e
 
 named_back : (d : Said) (n least : ℕ) (name : List ℕ) (e : Said) → is_name name ≡ true → is_among d.names name ≡ false
@@ -219,14 +228,14 @@ pushed_ok None r row e = absurd (let never : None ≡ Some row = e in cc)
 pushed_ok (Some n) None row e = absurd (let never : None ≡ Some row = e in cc)
 pushed_ok (Some n) (Some more) row e = (n, more, refl, refl, let same : Some (n ∷ more) ≡ Some row = e in cc)
 
-distances_ok : (parts : List (List ℕ)) (row : List ℕ) → distances_in parts ≡ Some row → AllZip (IsNumber 0 10000) parts row
+pub distances_ok : (parts : List (List ℕ)) (row : List ℕ) → distances_in parts ≡ Some row → AllZip (IsNumber 0 10000) parts row
 distances_ok [] [] e = tt
 distances_ok [] (d ∷ row) e = absurd (let never : Some [] ≡ Some (d ∷ row) = e in cc)
 distances_ok (part ∷ parts) row e =
     let p = pushed_ok (number_in 0 10000 part) (distances_in parts) row e in
     subst (AllZip (IsNumber 0 10000) (part ∷ parts)) (sym p.4) (number_in_is 0 10000 part p.0 p.2, distances_ok parts p.1 p.3)
 
-distances_back : (parts : List (List ℕ)) (row : List ℕ) → AllZip (IsNumber 0 10000) parts row → distances_in parts ≡ Some row
+pub distances_back : (parts : List (List ℕ)) (row : List ℕ) → AllZip (IsNumber 0 10000) parts row → distances_in parts ≡ Some row
 distances_back [] [] all = refl
 distances_back [] (d ∷ row) all = absurd all
 distances_back (part ∷ parts) [] all = absurd all

@@ -1,39 +1,21 @@
--- The first byte of a kind, and the blanks at the end of a text.
-use Rattle.std.proofs.Common.{◌≡◌, ℕ, ◌+◌, ◌-◌, ◌<◌, ◌≤◌, nat_lt, ◌==◌, ◌&&◌, Bool, true, false, not, cond, List, [], ◌∷◌, ◌++◌, length, get_or, take, drop, Some, None, sym, ap, refl, ◌∙◌, arith}
+-- What stands from a place on, and the blanks at the end of a text.
+use Rattle.std.proofs.Common.{◌≡◌, ℕ, ◌+◌, ◌-◌, ◌<◌, ◌≤◌, ◌==◌, ◌&&◌, Bool, true, false, cond, List, [], ◌∷◌, ◌++◌, length, get_or, take, drop, Option, Some, None, sym, ap, refl, ◌∙◌, arith}
 use Rattle.std.specs.List.{position, position_or_len}
-use Rattle.std.proofs.lemmas.Bool.{ltb-false}
+use Rattle.std.specs.Option.{unwrap_or}
 use Rattle.std.proofs.lemmas.Bool.Decides.{nat_tests}
 use Rattle.std.proofs.lemmas.List.{take_rest, take_more, length-append}
-use Rattle.class_table.specs.Words.{is_blank, unended}
-
-place_is : (n len i : ℕ) → cond (nat_lt n len) (Some n) None ≡ Some i → i ≡ n
-place_is n len i e =
-    elim (nat_lt n len) as (λ b. cond b (Some n) None ≡ Some i → i ≡ n) [ true ↦ λ is. (cc) | false ↦ λ is. (cc) ] e
-
-no_place : (n len : ℕ) → cond (nat_lt n len) (Some n) None ≡ None → len ≤ n
-no_place n len e =
-    elim (nat_lt n len) as (λ b. nat_lt n len ≡ b → cond b (Some n) None ≡ None → len ≤ n) [
-      | true ↦ λ t is. (cc)
-      | false ↦ λ t is. ltb-false n len t
-    ] refl e
-
-near : (p : ℕ → Bool) (text : List ℕ) → position_or_len p text ≤ length text
-near p [] = omega arith
-near p (x ∷ text) =
-    let more = near p text in
-    elim (p x) as (λ b. cond (not b) (1 + position_or_len p text) 0 ≤ length (x ∷ text)) [ true ↦ omega arith | false ↦ omega arith ]
-
--- where the first such byte stands
-pub first_at : (p : ℕ → Bool) (text : List ℕ) (at : ℕ) → position p text ≡ Some at → at ≡ position_or_len p text
-first_at p text at e = place_is _ _ at e
-
--- where there is none
-pub none_at : (p : ℕ → Bool) (text : List ℕ) → position p text ≡ None → length text ≡ position_or_len p text
-none_at p text e = let far = no_place _ (length text) e in let close = near p text in omega arith
+use Rattle.text_words.specs.Words.{is_blank}
+use Rattle.text_words.proofs.FirstByte.{first_at, none_at}
+use Rattle.class_table.specs.Words.{unended}
 
 -- what stands from a place on
 pub rest_at : (text : List ℕ) (at place : ℕ) → at ≡ place → take (length text - at) (drop at text) ≡ drop place text
 rest_at text at place e = take_rest text at ∙ ap (λ k. drop k text) e
+
+-- the first such byte, or the end where there is none
+pub place_or : (p : ℕ → Bool) (text : List ℕ) (o : Option ℕ) → o ≡ position p text → unwrap_or o (length text) ≡ position_or_len p text
+place_or p text (Some at) e = first_at p text at (sym e)
+place_or p text None e = none_at p text (sym e)
 
 -- a blank at the end is dropped
 unended_blank : (text : List ℕ) (b : ℕ) → is_blank b ≡ true → unended (text ++ b ∷ []) ≡ unended text

@@ -1,8 +1,9 @@
 -- The first fault of a text that spells no class table, and what holds of all texts.
-use Rattle.std.specs.Prelude.{◌≡◌, ◌⊎◌, ◌↔◌, ℕ, true, List, ◌∷◌, ◌++◌, length, Ok, Err}
+use Rattle.std.specs.Prelude.{◌≡◌, ◌⊎◌, ℕ, true, List, ◌∷◌, ◌++◌, length}
 use Rattle.agg_base.specs.Lines.{Row, rows_from}
+use Rattle.class_table.specs.Breaks.{BreaksFirst, EndsEarly}
 use Rattle.class_table.specs.Classes.{Classes}
-use Rattle.class_table.specs.Reading.{Said, nothing_said, line_says, whole}
+use Rattle.class_table.specs.Said.{Said, nothing_said}
 use Rattle.class_table.specs.Steps.{Adds, AddAll}
 use Rattle.class_table.specs.TableTexts.{IsTableText, lines_of}
 use Rattle.class_table.specs.Words.{counts}
@@ -13,11 +14,7 @@ use Rattle.class_table.specs.declared.fault.TableFault.TheVariants.{Line, Repeat
 abbrev pub AreRight : List Row → Said → Type 0
 AreRight lines d = AddAll nothing_said (lines_of lines) d
 
--- a line that counts has no fault exactly where it is right behind those before it
-abbrev pub RightLines : Type 0
-RightLines = (d e : Said) (number : ℕ) (line : List ℕ) → counts line ≡ true → (line_says d number line ≡ Ok e) ↔ Adds d line e
-
--- the lines before one are right, and that line breaks a rule: the fault names the first rule that it breaks
+-- the lines before one are right, and that line counts and breaks a rule: the fault names the first rule that it breaks
 pub record IsLineFault (text : List ℕ) (fault : TableFault) : Type 0 where
   pub before : List Row
   pub line : Row
@@ -25,13 +22,14 @@ pub record IsLineFault (text : List ℕ) (fault : TableFault) : Type 0 where
   pub said : Said
   pub lines_are : rows_from 1 text ≡ before ++ line ∷ after
   pub right : AreRight before said
-  pub broken : line_says said line.number line.text ≡ Err fault
+  pub counted : counts line.text ≡ true
+  pub broken : BreaksFirst said line.number line.text fault
 
 -- all lines are right, and the text ends too early
 pub record IsEndFault (text : List ℕ) (fault : TableFault) : Type 0 where
   pub said : Said
   pub right : AreRight (rows_from 1 text) said
-  pub early : whole said (length (rows_from 1 text)) ≡ Err fault
+  pub early : EndsEarly said (length (rows_from 1 text)) fault
 
 -- the fault of the first line that breaks a rule, or of the end
 abbrev pub IsFirstFault : List ℕ → TableFault → Type 0
@@ -59,3 +57,15 @@ TableWithoutFault = (text : List ℕ) (t : Classes) (f : TableFault) → IsTable
 -- each text spells a table or has a first fault
 abbrev pub TableOrFault : Type 0
 TableOrFault = (text : List ℕ) → ((t : Classes) × IsTableText text t) ⊎ ((f : TableFault) × IsFirstFault text f)
+
+-- a line that counts is right behind the lines before it, or breaks a rule first
+abbrev pub RightOrBroken : Type 0
+RightOrBroken = (d : Said) (number : ℕ) (line : List ℕ) → counts line ≡ true → ((e : Said) × Adds d line e) ⊎ ((f : TableFault) × BreaksFirst d number line f)
+
+-- and not both
+abbrev pub NeverBoth : Type 0
+NeverBoth = (d e : Said) (number : ℕ) (line : List ℕ) (f : TableFault) → counts line ≡ true → Adds d line e → ¬ BreaksFirst d number line f
+
+-- it breaks one rule first at most
+abbrev pub OneRule : Type 0
+OneRule = (d : Said) (number : ℕ) (line : List ℕ) (f g : TableFault) → counts line ≡ true → BreaksFirst d number line f → BreaksFirst d number line g → f ≡ g

@@ -1,6 +1,6 @@
 -- What calls answer, beside what a text says.
 use Rattle.std.specs.Prelude.{◌≡◌, Result, Ok, Err}
-use Rattle.class_table.specs.Reading.{Said}
+use Rattle.class_table.specs.Said.{Said}
 use Rattle.class_table.specs.declared.draft.Draft.{Draft}
 use Rattle.class_table.specs.declared.fault.TableFault.{TableFault}
 use Rattle.class_table.specs.declared.fault.TableFault.TheVariants.{Line, RepeatedClass, Limit, Memory}

@@ -1,10 +1,11 @@
+pub mod Breaks
 pub mod Classes
 pub mod Faults
 pub mod Gives
 pub mod Names
 pub mod Numbers
-pub mod Parts
 pub mod Reading
+pub mod Said
 pub mod Steps
 pub mod TableTexts
 pub mod Words

@@ -1,37 +1,19 @@
 -- What the lines of a class table say, one after the other, or the first rule that a line breaks.
-use Rattle.std.specs.Prelude.{◌==◌, ◌&&◌, ◌+◌, ◌^◌, nat_le, nat_lt, not, if◌then◌else◌, Bool, ℕ, ℤ, pos, List, [], ◌∷◌, ◌++◌, length, drop, slice_index, codes, Option, Some, None, Result, Ok, Err}
-use Rattle.std.specs.List.{list_any}
+use Rattle.std.specs.Prelude.{◌==◌, ◌&&◌, ◌+◌, ◌^◌, nat_le, nat_lt, not, if◌then◌else◌, Bool, ℕ, pos, List, [], ◌∷◌, ◌++◌, length, drop, slice_index, codes, Option, Some, None, Result, Ok, Err}
 use Rattle.std.specs.Str.{bytes_eq}
 use Rattle.agg_base.specs.Lines.{Row, rows_from}
+use Rattle.text_words.specs.Words.{words, word}
 use Rattle.class_table.specs.Classes.{Classes}
 use Rattle.class_table.specs.Names.{is_name}
 use Rattle.class_table.specs.Numbers.{number_in}
-use Rattle.class_table.specs.Words.{words, word, counts, name_in}
+use Rattle.class_table.specs.Said.{Said, nothing_said, table_of, is_among}
+use Rattle.class_table.specs.Words.{counts, name_in}
 use Rattle.class_table.specs.declared.draft.Due.{Due}
 use Rattle.class_table.specs.declared.draft.Due.TheVariants.{Head, Scale, Border, Body}
 use Rattle.class_table.specs.declared.fault.Why.{Why}
 use Rattle.class_table.specs.declared.fault.Why.TheVariants.{Version, Word, Number, Name, Count, Diagonal, End}
 use Rattle.class_table.specs.declared.fault.TableFault.{TableFault}
 use Rattle.class_table.specs.declared.fault.TableFault.TheVariants.{Line, RepeatedClass, Limit}
-
--- what the lines so far have said: which lines are due, how many rows there were, and what stands in the table
-pub record Said : Type 0 where
-  pub due : Due
-  pub rows : ℕ
-  pub wide : ℕ
-  pub high : ℕ
-  pub border : ℕ
-  pub names : List (List ℕ)
-  pub threshold : List ℤ
-  pub distance : List ℕ
-
--- nothing is said: the version is due, and the factors are 1 and 1 where no line gives them
-abbrev pub nothing_said : Said
-nothing_said = record { due = Head; rows = 0; wide = 1; high = 1; border = 0; names = []; threshold = []; distance = [] }
-
--- the table of what was said
-abbrev pub table_of : Said → Classes
-table_of d = record { wide = d.wide; high = d.high; border = d.border; names = d.names; threshold = d.threshold; distance = d.distance }
 
 -- the line with that number breaks a rule
 abbrev pub breaks : {X : Type 0} → ℕ → Why → Result X TableFault
@@ -71,10 +53,6 @@ border_line d number parts =
 -- the unit where it is written, or else the border
 unfoldable pub scale_line : Said → ℕ → List (List ℕ) → Result Said TableFault
 scale_line d number parts = if bytes_eq (word parts 0) (codes "unit") then unit_line d number parts else border_line d number parts
-
--- the name stands among these
-abbrev pub is_among : List (List ℕ) → List ℕ → Bool
-is_among names name = list_any (λ seen. bytes_eq seen name) names
 
 -- a class with that threshold
 unfoldable pub named_class : Said → ℕ → ℕ → List ℕ → Result Said TableFault

@@ -1,6 +1,6 @@
 -- What one more right line adds to what was said.
 use Rattle.std.specs.Prelude.{◌≡◌, ◌⊎◌, ◌<◌, ◌+◌, ℕ, ℤ, List, [], ◌∷◌, ◌++◌, length, slice_index, false}
-use Rattle.class_table.specs.Reading.{Said, is_among}
+use Rattle.class_table.specs.Said.{Said, is_among}
 use Rattle.class_table.specs.TableTexts.{IsVersionLine, IsUnitLine, IsBorderLine, IsClassLine, IsRowLine}
 use Rattle.class_table.specs.declared.draft.Due.{Due}
 use Rattle.class_table.specs.declared.draft.Due.TheVariants.{Head, Scale, Border, Body}

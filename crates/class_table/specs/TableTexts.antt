@@ -5,7 +5,8 @@ use Rattle.agg_base.specs.Lines.{Row, rows_from}
 use Rattle.class_table.specs.Classes.{Classes, IsClasses}
 use Rattle.class_table.specs.Names.{IsName}
 use Rattle.class_table.specs.Numbers.{IsNumber}
-use Rattle.class_table.specs.Words.{words, counts, name_in}
+use Rattle.text_words.specs.Words.{words}
+use Rattle.class_table.specs.Words.{counts, name_in}
 
 -- `classes 1`
 abbrev pub IsVersionLine : List ℕ → Type 0

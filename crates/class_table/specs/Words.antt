@@ -1,21 +1,7 @@
--- The words of a line, and the name that stands in it. Byte 32 is the space, 9 the tab and 35 the number sign.
-use Rattle.std.specs.Prelude.{◌==◌, ◌||◌, ◌&&◌, not, if◌then◌else◌, ℕ, Bool, List, [], ◌∷◌, length, drop, slice_index, slice_index_or}
-use Rattle.std.specs.List.{slice_split, filter, position_or_len}
-
--- a space or a tab
-abbrev pub is_blank : ℕ → Bool
-is_blank byte = (byte == 32) || (byte == 9)
-
--- there is something
-abbrev pub is_filled : List ℕ → Bool
-is_filled text = not (length text == 0)
-
--- the words of a line: what stands between blanks
-unfoldable pub words : List ℕ → List (List ℕ)
-words line = filter is_filled (slice_split is_blank line)
-
-abbrev pub word : List (List ℕ) → ℕ → List ℕ
-word parts at = slice_index_or parts at []
+-- Which lines count, and the name that stands in a line. Byte 35 is the number sign.
+use Rattle.std.specs.Prelude.{◌==◌, ◌&&◌, not, if◌then◌else◌, ℕ, Bool, List, [], ◌∷◌, length, drop, slice_index}
+use Rattle.std.specs.List.{position_or_len}
+use Rattle.text_words.specs.Words.{is_blank, words}
 
 -- a line counts where it has words and does not begin with a number sign
 abbrev pub counts : List ℕ → Bool

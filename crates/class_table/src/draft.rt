@@ -1,17 +1,30 @@
 // What the lines of a class table have said so far.
 ghost use Rattle.std.specs.Prelude.{◌≡◌, ◌<◌, ◌≤◌, ◌+◌, ◌^◌, if◌then◌else◌, true, length};
-ghost use Rattle.class_table.specs.Reading.{nothing_said, version_line, unit_line, border_line, scale_line, named_class, class_line, row_line, body_line, due_line, line_says, is_whole, whole, table_of};
+ghost use Rattle.class_table.specs.Said.{nothing_said, table_of};
+ghost use Rattle.class_table.specs.Reading.{version_line, unit_line, border_line, scale_line, named_class, class_line, row_line, body_line, due_line, line_says, is_whole, whole};
 ghost use Rattle.class_table.specs.Classes.{Classes, IsClasses};
 ghost use Rattle.class_table.specs.Gives.{Gives, said};
 ghost use Rattle.class_table.specs.declared.fault.TableFault.TheVariants.{Line};
 ghost use Rattle.class_table.specs.declared.fault.Why.TheVariants.{End};
 
-use crate::line::{has_border, has_version, is_among, is_comment, read_distances, read_name};
+use crate::line::{
+    GREATEST_COST, has_border, has_version, is_among, is_comment, read_distances, read_name,
+};
+use crate::name::name_of;
 use crate::number::read_number;
-use crate::parts::{Parts, name_of};
 use crate::{Table, TableFault, Why};
 use agg_base::Text;
 use std::alloc::Global;
+use text_words::Parts;
+
+// The most classes.
+const MOST_CLASSES: usize = 64;
+
+// The greatest factor of an axis.
+const GREATEST_FACTOR: u128 = 100;
+
+// The greatest threshold.
+const GREATEST_THRESHOLD: u128 = 1_000_000_000_000_000_000_000_000_000_000;
 
 // The lines that are due.
 #[derive(Clone, Copy, Debug, PartialEq, Eq)]
@@ -94,10 +107,7 @@ impl Draft {
         ensures { Gives (λ _. said self.new) result (version_line (said self.old) number parts.now) }
     {
         if !has_version(parts) {
-            return Err(TableFault::Line {
-                number,
-                why: Why::Version,
-            });
+            return Err(TableFault::at(number, Why::Version));
         }
         self.due = Due::Scale;
         Ok(())
@@ -122,22 +132,13 @@ impl Draft {
         ensures { Gives (λ _. said self.new) result (unit_line (said self.old) number parts.now) }
     {
         if parts.count() != 3 {
-            return Err(TableFault::Line {
-                number,
-                why: Why::Word,
-            });
+            return Err(TableFault::at(number, Why::Word));
         }
-        let Some(wide) = read_number(parts.at(1), 1, 100) else {
-            return Err(TableFault::Line {
-                number,
-                why: Why::Number,
-            });
+        let Some(wide) = read_number(parts.at(1), 1, GREATEST_FACTOR) else {
+            return Err(TableFault::at(number, Why::Number));
         };
-        let Some(high) = read_number(parts.at(2), 1, 100) else {
-            return Err(TableFault::Line {
-                number,
-                why: Why::Number,
-            });
+        let Some(high) = read_number(parts.at(2), 1, GREATEST_FACTOR) else {
+            return Err(TableFault::at(number, Why::Number));
         };
         self.due = Due::Border;
         self.wide = wide as u32;
@@ -151,16 +152,10 @@ impl Draft {
         ensures { Gives (λ _. said self.new) result (border_line (said self.old) number parts.now) }
     {
         if !has_border(parts) {
-            return Err(TableFault::Line {
-                number,
-                why: Why::Word,
-            });
+            return Err(TableFault::at(number, Why::Word));
         }
-        let Some(border) = read_number(parts.at(1), 0, 10_000) else {
-            return Err(TableFault::Line {
-                number,
-                why: Why::Number,
-            });
+        let Some(border) = read_number(parts.at(1), 0, GREATEST_COST) else {
+            return Err(TableFault::at(number, Why::Number));
         };
         self.due = Due::Body;
         self.border = border as u32;
@@ -184,10 +179,7 @@ impl Draft {
         } else if parts.has(0, b"row") && self.rows < self.names.len() {
             self.take_row(alloc, number, parts)
         } else {
-            Err(TableFault::Line {
-                number,
-                why: Why::Word,
-            })
+            Err(TableFault::at(number, Why::Word))
         }
     }
 
@@ -203,20 +195,13 @@ impl Draft {
         ensures { Gives (λ _. said self.new) result (class_line (said self.old) number line.now parts.now) }
     {
         if parts.count() < 3 {
-            return Err(TableFault::Line {
-                number,
-                why: Why::Word,
-            });
+            return Err(TableFault::at(number, Why::Word));
         }
-        if self.names.len() >= 64 {
+        if self.names.len() >= MOST_CLASSES {
             return Err(TableFault::Limit { line: number });
         }
-        let most = 1_000_000_000_000_000_000_000_000_000_000;
-        let Some(threshold) = read_number(parts.at(1), 0, most) else {
-            return Err(TableFault::Line {
-                number,
-                why: Why::Number,
-            });
+        let Some(threshold) = read_number(parts.at(1), 0, GREATEST_THRESHOLD) else {
+            return Err(TableFault::at(number, Why::Number));
         };
         self.add_class(alloc, number, threshold, name_of(line))
     }
@@ -234,10 +219,7 @@ impl Draft {
         ensures { Gives (λ _. said self.new) result (named_class (said self.old) number threshold name.now) }
     {
         let Some(name) = read_name(name) else {
-            return Err(TableFault::Line {
-                number,
-                why: Why::Name,
-            });
+            return Err(TableFault::at(number, Why::Name));
         };
         if is_among(&self.names, name) {
             return Err(TableFault::RepeatedClass { line: number });
@@ -255,22 +237,13 @@ impl Draft {
         ensures { Gives (λ _. said self.new) result (row_line (said self.old) number parts.now) }
     {
         if parts.count() - 1 != self.names.len() {
-            return Err(TableFault::Line {
-                number,
-                why: Why::Count,
-            });
+            return Err(TableFault::at(number, Why::Count));
         }
         let Some(row) = read_distances(alloc, parts)? else {
-            return Err(TableFault::Line {
-                number,
-                why: Why::Number,
-            });
+            return Err(TableFault::at(number, Why::Number));
         };
         if row[self.rows] != 0 {
-            return Err(TableFault::Line {
-                number,
-                why: Why::Diagonal,
-            });
+            return Err(TableFault::at(number, Why::Diagonal));
         }
         self.rows += 1;
         self.distances.extend_from_slice(&row)?;
@@ -286,14 +259,8 @@ impl Draft {
     {
         let number = last + 1;
         match self.due {
-            Due::Head => Err(TableFault::Line {
-                number,
-                why: Why::Version,
-            }),
-            Due::Scale | Due::Border => Err(TableFault::Line {
-                number,
-                why: Why::End,
-            }),
+            Due::Head => Err(TableFault::at(number, Why::Version)),
+            Due::Scale | Due::Border => Err(TableFault::at(number, Why::End)),
             Due::Body => self.finish_body(number),
         }
     }
@@ -304,10 +271,7 @@ impl Draft {
         ensures { Gives (λ t. t) result (if is_whole (said self) then Ok (table_of (said self)) else Err (Line number End)) }
     {
         if self.names.is_empty() || self.rows != self.names.len() {
-            return Err(TableFault::Line {
-                number,
-                why: Why::End,
-            });
+            return Err(TableFault::at(number, Why::End));
         }
         Ok(Table::of(
             (self.wide, self.high),

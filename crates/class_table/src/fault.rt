@@ -1,5 +1,5 @@
 // Why a text is no class table.
-ghost use Rattle.class_table.specs.declared.fault.TableFault.TheVariants.{Memory};
+ghost use Rattle.class_table.specs.declared.fault.TableFault.TheVariants.{Line, Memory};
 ghost use Rattle.std.specs.Prelude.{◌≡◌};
 
 use agg_base::NoMemory;
@@ -9,7 +9,7 @@ use thiserror::Error;
 /// The rule that a line of a class table breaks.
 #[derive(Clone, Copy, Debug, PartialEq, Eq)]
 pub enum Why {
-    /// The first line is not `classes 1`, or there is none.
+    /// The first line that counts is not `classes 1`, or there is none.
     Version,
     /// The first word is not one that is due, the number of words is wrong, or the line stands behind the last row.
     Word,
@@ -51,6 +51,15 @@ pub enum TableFault {
     /// Memory is wanting. No other cause has this answer.
     #[error("out of memory")]
     Memory,
+}
+
+impl TableFault {
+    // The line with that number breaks a rule.
+    pub(crate) fn at(number: u32, why: Why) -> TableFault
+        ensures { result ≡ Line number why }
+    {
+        TableFault::Line { number, why }
+    }
 }
 
 impl From<NoMemory> for TableFault {

@@ -1,5 +1,5 @@
 // What holds of all texts.
-ghost use Rattle.class_table.specs.Faults.{OneTable, OneFault, TableWithoutFault, TableOrFault, RightLines};
+ghost use Rattle.class_table.specs.Faults.{OneTable, OneFault, TableWithoutFault, TableOrFault, RightOrBroken, NeverBoth, OneRule};
 
 /// A text spells at most one class table.
 pub fn one_table()
@@ -21,7 +21,9 @@ pub fn table_or_fault()
     ensures { TableOrFault }
 {}
 
-/// A line that counts has no fault exactly where it is right behind the lines before it.
+/// A line that counts is right behind the lines before it, or breaks one rule first, and never both.
 pub fn right_lines()
-    ensures { RightLines }
+    ensures some { RightOrBroken }
+    ensures never_both { NeverBoth }
+    ensures one_rule { OneRule }
 {}

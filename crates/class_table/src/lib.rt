@@ -5,8 +5,8 @@ mod draft;
 mod fault;
 mod laws;
 mod line;
+mod name;
 mod number;
-mod parts;
 mod reader;
 mod table;
 

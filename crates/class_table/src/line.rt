@@ -2,15 +2,22 @@
 ghost use Rattle.std.specs.Prelude.{◌≡◌, ◌==◌, ◌&&◌, ◌<◌, ◌≤◌, ◌+◌, nat_le, true, false, length, slice_index, drop, codes, IfOk, IfSome, IfNone, Some, None};
 ghost use Rattle.std.specs.List.{list_all};
 ghost use Rattle.std.specs.Str.{bytes_eq};
-ghost use Rattle.class_table.specs.Reading.{is_version, is_among, distances_in};
+ghost use Rattle.text_words.specs.Words.{word};
+ghost use Rattle.class_table.specs.Said.{is_among};
+ghost use Rattle.class_table.specs.Reading.{is_version, distances_in};
 ghost use Rattle.class_table.specs.Names.{is_name};
-ghost use Rattle.class_table.specs.Words.{word};
 
 use crate::number::read_number;
-use crate::parts::Parts;
 use agg_base::{NoMemory, Text};
 use std::alloc::Global;
 use std::str;
+use text_words::Parts;
+
+// The greatest distance and the greatest border weight.
+pub(crate) const GREATEST_COST: u128 = 10_000;
+
+// The most bytes of a name.
+const MOST_BYTES: usize = 100;
 
 // Whether a line begins with a number sign.
 pub(crate) fn is_comment(line: &[u8]) -> bool
@@ -40,7 +47,7 @@ pub(crate) fn read_name(name: &[u8]) -> Option<&str>
     ensures found { IfSome result (λ text. (text.now ≡ name.now) × (is_name name.now ≡ true)) }
     ensures none { IfNone result (is_name name.now ≡ false) }
 {
-    if name.is_empty() || name.len() > 100 || !is_printed(name) {
+    if name.is_empty() || name.len() > MOST_BYTES || !is_printed(name) {
         return None;
     }
     let Ok(text) = str::from_utf8(name) else {
@@ -72,7 +79,7 @@ pub(crate) fn read_distances(alloc: Global, parts: &Parts<'_>) -> Result<Option<
 {
     let mut row = Vec::new(alloc);
     for at in 1..parts.count() {
-        let Some(distance) = read_number(parts.at(at), 0, 10_000) else {
+        let Some(distance) = read_number(parts.at(at), 0, GREATEST_COST) else {
             return Ok(None);
         };
         row.push(distance as u32)?;

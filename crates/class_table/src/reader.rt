@@ -2,7 +2,8 @@
 ghost use Rattle.std.specs.Prelude.{◌≡◌, ◌≤◌, length, IfOk, IfErr};
 ghost use Rattle.agg_base.specs.Lines.{rows_from};
 ghost use Rattle.class_table.specs.Classes.{Classes};
-ghost use Rattle.class_table.specs.Reading.{nothing_said, lines_say, reading};
+ghost use Rattle.class_table.specs.Said.{nothing_said};
+ghost use Rattle.class_table.specs.Reading.{lines_say, reading};
 ghost use Rattle.class_table.specs.Gives.{Gives, said};
 ghost use Rattle.class_table.specs.Faults.{IsFaultOf, IsFirstFault};
 ghost use Rattle.class_table.specs.declared.fault.TableFault.{TableFault};

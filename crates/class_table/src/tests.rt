@@ -8,10 +8,8 @@ use crate::{
 use std::alloc::Global;
 use std::test::Fail;
 
-// Whether a value may be handed to, and shared with, another thread.
-fn is_shared<T: Send + Sync>(_value: &T) -> bool {
-    true
-}
+// What crosses threads.
+fn crosses<T: Send + Sync>(_value: &T) {}
 
 // The table of a text that is short enough.
 fn table(alloc: Global, text: &[u8]) -> Result<Table, TableFault> {
@@ -53,7 +51,7 @@ fn a_table_is_read(rt: HostRuntime) -> Result<(), Fail> {
         assert_eq!(rt; table.distance(1, 0), 10_000);
         assert_eq!(rt; table.distance(1, 1), 0);
     }
-    assert!(rt; is_shared(&table));
+    crosses(&table);
     table.rules();
     Ok(())
 }
@@ -103,6 +101,8 @@ fn lines_break_their_rules(rt: HostRuntime) {
         (b"classes 1\nunit 1 101\n".as_slice(), 2, Why::Number),
         (b"classes 1\nclass 4 a\n".as_slice(), 2, Why::Word),
         (b"classes 1\nborder\n".as_slice(), 2, Why::Word),
+        (b"classes 1\nborder 1 1\n".as_slice(), 2, Why::Word),
+        (b"classes 1\nborder 1\nunit 1 1\n".as_slice(), 3, Why::Word),
         (b"classes 1\nborder 10001\n".as_slice(), 2, Why::Number),
         (b"classes 1\nborder +1\n".as_slice(), 2, Why::Number),
         (
@@ -114,6 +114,11 @@ fn lines_break_their_rules(rt: HostRuntime) {
         (b"classes 1\nborder 1\nclass 4\n".as_slice(), 3, Why::Word),
         (
             b"classes 1\nborder 1\nclass x a\n".as_slice(),
+            3,
+            Why::Number,
+        ),
+        (
+            b"classes 1\nborder 1\nclass x \xff\n".as_slice(),
             3,
             Why::Number,
         ),
@@ -136,6 +141,16 @@ fn lines_break_their_rules(rt: HostRuntime) {
             b"classes 1\nborder 1\nclass 4 \xff\n".as_slice(),
             3,
             Why::Name,
+        ),
+        (
+            b"classes 1\nborder 1\nclass 4 a\nrow\n".as_slice(),
+            4,
+            Why::Count,
+        ),
+        (
+            b"classes 1\nborder 1\nclass 4 a\nclass 5 b\nrow x\n".as_slice(),
+            5,
+            Why::Count,
         ),
         (
             b"classes 1\nborder 1\nclass 4 a\nclass 5 b\nrow 0 x 1\n".as_slice(),

@@ -9,4 +9,4 @@ returns-in_default-clause-none c = name_no_text c.args.name.now c.in_default.ens
 pub returns-clause-found : goal.returns-clause-found
 returns-clause-found c =
     let some : 1 ≤ length c.args.name.now = (let filled = not_from_Decides (length c.args.name.now == 0) (Decides-eqb (length c.args.name.now) 0) (sym c.is_empty.ensures ∙ c.if-is_empty.false) in omega arith) in
-    (search rules, name_holds c.args.name.now some c.if-name-gt100.false (sym c.is_printed.ensures ∙ c.if-not-is_printed.false) (search rules))
+    (search rules, name_holds c.args.name.now some c.if-name-gt-MOST_BYTES.false (sym c.is_printed.ensures ∙ c.if-not-is_printed.false) (search rules))

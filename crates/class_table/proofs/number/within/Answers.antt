@@ -1,4 +1,4 @@
-use Rattle.class_table.proofs.Digits.{digits_are_text}
+use Rattle.text_words.proofs.Digits.{digits_are_text}
 use Rattle.class_table.proofs.number.within.Goals as goal
 
 pub returns-in_default-clause-none : goal.returns-in_default-clause-none

@@ -1,6 +1,7 @@
 use Rattle.std.proofs.Common.{◌≡◌, ◌+◌, length}
 use Rattle.agg_base.specs.Lines.{rows_left, rows_from}
-use Rattle.class_table.specs.Reading.{nothing_said, lines_say}
+use Rattle.class_table.specs.Said.{nothing_said}
+use Rattle.class_table.specs.Reading.{lines_say}
 use Rattle.class_table.specs.Gives.{said}
 use Rattle.class_table.proofs.reader.read_lines.Given as goal
 

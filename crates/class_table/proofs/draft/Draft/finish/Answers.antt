@@ -1,5 +1,6 @@
 use Rattle.std.proofs.Common.{◌+◌, Bool, cond, ap, ◌∙◌, Ok}
-use Rattle.class_table.specs.Reading.{whole, whole_at, table_of, breaks}
+use Rattle.class_table.specs.Said.{table_of}
+use Rattle.class_table.specs.Reading.{whole, whole_at, breaks}
 use Rattle.class_table.specs.Gives.{said}
 use Rattle.class_table.specs.declared.fault.Why.TheVariants.{End}
 use Rattle.class_table.proofs.draft.Draft.finish.Goals as goal

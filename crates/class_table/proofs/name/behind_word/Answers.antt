@@ -1,8 +1,9 @@
 use Rattle.std.proofs.Common.{◌∙◌, ap, drop}
 use Rattle.std.specs.List.{position_or_len}
-use Rattle.class_table.specs.Words.{is_blank, behind}
+use Rattle.text_words.specs.Words.{is_blank}
+use Rattle.class_table.specs.Words.{behind}
 use Rattle.class_table.proofs.WordLemmas.{rest_at}
-use Rattle.class_table.proofs.parts.behind_word.Goals as goal
+use Rattle.class_table.proofs.name.behind_word.Goals as goal
 
 pub returns : goal.returns
 unfolding behind

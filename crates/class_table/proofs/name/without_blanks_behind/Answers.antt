@@ -1,15 +1,16 @@
 use Rattle.std.proofs.Common.{◌≡◌, ◌∙◌, ◌≤◌, ◌-◌, length, take, get_or, true, sym, arith}
-use Rattle.class_table.specs.Words.{is_blank, unended}
+use Rattle.text_words.specs.Words.{is_blank}
+use Rattle.class_table.specs.Words.{unended}
 use Rattle.class_table.proofs.WordLemmas.{end_step, end_found, end_none}
-use Rattle.class_table.proofs.parts.without_blanks_behind.Goals as goal
-use Rattle.class_table.proofs.parts.without_blanks_behind.Goals.{then-loop-end-test+else-blank, else-loop-end-test}
+use Rattle.class_table.proofs.name.without_blanks_behind.Goals as goal
+use Rattle.class_table.proofs.name.without_blanks_behind.Goals.{then-loop-end-test+else-is_blank, else-loop-end-test}
 
 pub loop-end-preserved : goal.loop-end-preserved
 loop-end-preserved c =
     let text = c.args.text.now in
     let end = c.loop-end.end in
     let within : end ≤ length text = c.loop-end.invariant.0 in
-    let blank : is_blank (get_or text (end - 1) 0) ≡ true = sym c.blank.ensures ∙ c.if-blank.true in
+    let blank : is_blank (get_or text (end - 1) 0) ≡ true = sym c.is_blank.ensures ∙ c.if-is_blank.true in
     (omega arith, sym (end_step text end c.loop-end-test.true within blank) ∙ c.loop-end.invariant.1)
 
 pub returns : goal.returns
@@ -18,6 +19,6 @@ returns c =
     let end = c.loop-end.end in
     let within : end ≤ length text = c.loop-end.invariant.0 in
     elim c.loop-end-test.branch as (λ _. take end text ≡ unended text) [
-      | then-loop-end-test+else-blank w ↦ sym (end_found text end w.loop-end-test.true within (sym w.blank.ensures ∙ w.if-blank.false)) ∙ c.loop-end.invariant.1
+      | then-loop-end-test+else-is_blank w ↦ sym (end_found text end w.loop-end-test.true within (sym w.is_blank.ensures ∙ w.if-is_blank.false)) ∙ c.loop-end.invariant.1
       | else-loop-end-test w ↦ sym (end_none text end (let none = w.loop-end-test.false in omega arith)) ∙ c.loop-end.invariant.1
     ]

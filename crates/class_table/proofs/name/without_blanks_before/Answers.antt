@@ -1,6 +1,6 @@
 use Rattle.class_table.specs.Words.{unled}
 use Rattle.class_table.proofs.WordLemmas.{rest_at}
-use Rattle.class_table.proofs.parts.without_blanks_before.Goals as goal
+use Rattle.class_table.proofs.name.without_blanks_before.Goals as goal
 
 pub returns : goal.returns
 unfolding unled
