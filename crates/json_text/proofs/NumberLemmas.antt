@@ -83,7 +83,7 @@ first_digit : (ds rest : List ℕ) → IsNumeral 10 ds → is_ascii_digit (slice
 first_digit [] rest is = absurd (let some : 0 < 0 = is.0 in omega arith)
 first_digit (d ∷ ds) rest is = (both (is_ascii_digit d) (list_all is_ascii_digit ds) (own.from (d ∷ ds) is.1)).0
 
-no_digit : (x c : ℕ) → is_ascii_digit x ≡ true → is_ascii_digit c ≡ false → (x == c) ≡ false
+pub no_digit : (x c : ℕ) → is_ascii_digit x ≡ true → is_ascii_digit c ≡ false → (x == c) ≡ false
 no_digit x c e f = by_cases_of (x == c) _ (λ s. absurd (let same : x ≡ c = (Decides-eqb x c).0 s in false_true (sym f ∙ ap is_ascii_digit (sym same) ∙ e))) (λ s. s)
 
 abbrev IsSign : List ℕ → Type 0

@@ -65,7 +65,7 @@ spells_character c scalar printed = elim (cases_eq c 34) [
   ]
 ]
 
-first_character : (c text bytes : List ℕ) → SpellsCharacter text c → (more rest : List ℕ) → SpellsCharacters more rest → SpellsCharacters (c ++ more) (text ++ rest)
+pub first_character : (c text bytes : List ℕ) → SpellsCharacter text c → (more rest : List ℕ) → SpellsCharacters more rest → SpellsCharacters (c ++ more) (text ++ rest)
 first_character c text bytes h more rest s = record {
   characters = (text, c) ∷ s.characters;
   each = (h, s.each);

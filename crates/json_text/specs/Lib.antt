@@ -3,3 +3,10 @@ pub mod NumberTest
 pub mod Tree
 pub mod Strings
 pub mod Spelling
+pub mod Values
+pub mod Faults
+pub mod NumberSteps
+pub mod CharacterSteps
+pub mod Modes
+pub mod Stacks
+pub mod Steps

@@ -5,9 +5,22 @@
 //! optional byte order mark in front.
 #![tactic(auto)]
 
+mod character;
+mod digits;
+mod fault;
+mod laws;
+mod machine;
+mod mode;
 mod number;
+mod reader;
+mod stack;
+mod tree;
 
+pub use fault::JsonFault;
+pub use laws::{one_fault, one_tree, tree_or_fault, tree_without_fault};
 pub use number::is_number;
+pub use reader::read;
+pub use tree::Tree;
 
 #[cfg(test)]
 mod tests;
