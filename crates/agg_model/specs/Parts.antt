@@ -17,6 +17,7 @@ pub record AreParts (p : Plan) (part : ℕ → ℕ) : Type 0 where
   pub joined : (v : ℕ) → v < areas p → InOnePart p v (part v)
   pub least : (u v : ℕ) → u < areas p → v < areas p → InOnePart p v u → part v ≤ u
 
+-- what the areas of v's part weigh together
 abbrev pub part_weight : Plan → (ℕ → ℕ) → ℕ → ℤ
 part_weight p part v = sum_below (areas p) (λ u. when (part u == part v) (weight_of p u))
 

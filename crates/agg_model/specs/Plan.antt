@@ -119,11 +119,9 @@ pub record IsFeasible (p : Plan) (g : Groups) : Type 0 where
 
 -- ---- cost
 
+-- what it costs to give an area a class
 abbrev pub recolouring : Plan → ℕ → ℕ → ℤ
 recolouring p v k = weight_of p v *ℤ distance_of p (own_of p v) k
-
-abbrev pub crossing : Plan → ℕ → ℤ
-crossing p l = pos p.border *ℤ length_of p l
 
 -- the link joins two regions
 abbrev pub crosses : Plan → Groups → ℕ → Bool
@@ -136,9 +134,10 @@ recolouring_below p g n = sum_below n (λ v. recolouring p v (class_at g v))
 abbrev pub border_below : Plan → Groups → ℕ → ℤ
 border_below p g n = sum_below n (λ l. when (crosses p g l) (length_of p l))
 
+-- what all areas pay, and the border weight times the length of all links that join two regions
 unfoldable pub cost : Plan → Groups → ℤ
 cost p g = recolouring_below p g (areas p) +ℤ pos p.border *ℤ border_below p g (length p.links)
 
--- no grouping costs less than 0
+-- no numbered grouping costs less than 0
 abbrev pub CostLaw : Type 0
 CostLaw = (p : Plan) (g : Groups) → IsPlan p → IsNumbered p g → pos 0 ≤ℤ cost p g

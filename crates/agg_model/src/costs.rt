@@ -14,7 +14,7 @@ pub fn cost(problem: &Problem, grouping: &Grouping) -> i128
     recolouring(problem, grouping) + borders(problem, grouping) * i128::from(problem.border())
 }
 
-/// No grouping costs less than 0.
+/// No numbered grouping costs less than 0.
 #[tactic(auto, using(crate::proofs::CostLemmas::cost_law))]
 pub fn cost_law()
     ensures { CostLaw }

@@ -76,6 +76,24 @@ fn costs(rt: HostRuntime) -> Result<(), Fail> {
 }
 
 #[test]
+fn costs_of_distances_that_differ_by_direction(rt: HostRuntime) -> Result<(), Fail> {
+    let alloc = rt.alloc();
+    let mut parts = row(alloc)?;
+    parts.distance = vec![in alloc; 0, 7, 8, 0]?;
+    let problem = Problem::of(parts).expect(&rt, "a problem");
+    // One area of weight 2 goes from class 1 to 0, or two such areas from class 0 to 1.
+    for (class, want) in [(0, 16), (1, 28)] {
+        let grouping = Grouping {
+            region_of: vec![in alloc; 0; 3]?,
+            class_of: vec![in alloc; class]?,
+        };
+        assert!(rt; numbered(&problem, &grouping));
+        assert_eq!(rt; cost(&problem, &grouping), want);
+    }
+    Ok(())
+}
+
+#[test]
 fn numbers_of_groupings(rt: HostRuntime) -> Result<(), Fail> {
     let alloc = rt.alloc();
     let problem = Problem::of(row(alloc)?).expect(&rt, "a problem");

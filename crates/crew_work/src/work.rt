@@ -23,7 +23,7 @@ pub trait Job: Sync {
     fn count(&self) -> usize
         ensures { result ≡ pieces self.now };
 
-    /// The piece of a number below the count.
+    /// The piece of a number below the count. Its one refusal is want of memory.
     fn run(&self, alloc: Global, at: usize) -> Result<Self::Piece, NoMemory>
         requires { at < pieces self.now }
         ensures { IfOk result (λ piece. stands self.now at piece) };
@@ -32,6 +32,7 @@ pub trait Job: Sync {
 /// Whoever runs the pieces of a job.
 pub trait Crew {
     /// All pieces of a job: as many as its count, and the piece of number i at place i, in whatever order they were run.
+    /// Its error is that of a piece, or want of memory for the list.
     fn each<J: Job>(&self, alloc: Global, job: &J) -> Result<Vec<J::Piece>, NoMemory>
         ensures { IfOk result (λ all. AreInOrder (J.stands job.now) (J.pieces job.now) all.items) };
 }

@@ -1,22 +1,14 @@
 //! Spots against rows and banks.
 ghost use Rattle.std.specs.Prelude.{◌≡◌, ◌↔◌, ◌%◌, ◌==◌, ◌≤◌, IsTrue, true, false, AllPairs, length, count_by, flat_map};
 ghost use Rattle.std.specs.List.Sorted.{IsPartitionPoint};
-ghost use Rattle.plane_edge.specs.Plane.{IsBounded, IsInside, crosses};
+ghost use Rattle.plane_edge.specs.Plane.{IsBounded, IsInside};
 ghost use Rattle.edge_rows.specs.Beside.{crossed, is_in};
 ghost use Rattle.edge_rows.specs.Banks.{IsBefore, is_under, is_begun};
 ghost use Rattle.edge_rows.specs.Whole.{edges_of_bank};
 
 use crate::bank::Bank;
 use crate::row::Row;
-use plane_edge::{Edge, Spot, inside, scaled};
-
-/// Whether the ray from the spot to the right crosses the edge.
-fn is_crossed(edge: &Edge, spot: &Spot) -> bool
-    requires { IsBounded spot.now }
-    ensures { result ≡ crosses edge.now spot.now }
-{
-    inside(&[*edge], spot)
-}
+use plane_edge::{Spot, is_crossed, scaled};
 
 /// How many edges of the row the ray from the spot to the right crosses.
 fn crossed_of(row: &Row, spot: &Spot) -> usize

@@ -9,7 +9,7 @@ use crate::bank::Bank;
 use crate::row::Row;
 use crate::sorting::rank;
 use agg_base::NoMemory;
-use plane_edge::{Edge, Point};
+use plane_edge::{Edge, Point, are_equal};
 use std::alloc::Global;
 
 /// A row of one edge.
@@ -43,13 +43,6 @@ fn longer(row: Row, edge: Edge) -> Result<Row, NoMemory>
     })
 }
 
-/// Whether the numbers are equal, pair by pair.
-fn are_equal(a: i32, b: i32, c: i32, d: i32) -> bool
-    ensures { result ≡ int_eq a b && int_eq c d }
-{
-    a == b && c == d
-}
-
 /// Whether no pair of numbers falls.
 fn are_rising(a: i32, b: i32, c: i32, d: i32) -> bool
     ensures { result ≡ int_le a b && int_le c d }
@@ -57,7 +50,7 @@ fn are_rising(a: i32, b: i32, c: i32, d: i32) -> bool
     a <= b && c <= d
 }
 
-/// Both.
+/// Whether both hold.
 fn are_both(a: bool, b: bool) -> bool
     ensures { result ≡ a && b }
 {
@@ -68,7 +61,7 @@ fn are_both(a: bool, b: bool) -> bool
 fn are_level(e: &Edge, f: &Edge) -> bool
     ensures { result ≡ int_eq e.now.low.y f.now.low.y && int_eq e.now.high.y f.now.high.y }
 {
-    are_equal(e.low.y, f.low.y, e.high.y, f.high.y)
+    are_equal(e.low.y, e.high.y, f.low.y, f.high.y)
 }
 
 /// Whether neither end of the second edge is further left.
@@ -121,7 +114,7 @@ pub fn rows_of(alloc: Global, edges: &[Edge]) -> Result<Vec<Row>, NoMemory>
     Ok(rows)
 }
 
-/// The greater of two heights' points.
+/// The higher of two points.
 fn higher(p: Point, q: Point) -> Point
     ensures first { p.y ≤ℤ result.y }
     ensures second { q.y ≤ℤ result.y }

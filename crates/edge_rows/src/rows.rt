@@ -33,7 +33,7 @@ impl Model for EdgeRows {
 }
 
 impl EdgeRows {
-    /// Lays out the edges. What is laid out is crossed at every spot as often as the edges.
+    /// Lays out the edges. What is laid out is crossed at every spot as often as the edges. Its one refusal is want of memory.
     pub fn of(alloc: Global, edges: &[Edge]) -> Result<EdgeRows, NoMemory>
         ensures { IfOk result (λ rows. AreCrossedAlike rows edges.now) }
     {

@@ -1,6 +1,6 @@
 // Areas of one, two and three classes, worked by hand.
 use crate::{StartFault, hopeless_law, parts_law, start};
-use agg_model::{Grouping, Link, Problem, ProblemParts, cost, numbered};
+use agg_model::{Grouping, Link, Problem, ProblemParts, cost, numbered, parts};
 use std::alloc::Global;
 use std::process::Abort;
 use std::test::Fail;
@@ -51,6 +51,7 @@ fn crosses_threads<T: Send + Sync>(_: &T) {}
 fn areas_without_a_link(rt: HostRuntime) -> Result<(), Fail> {
     let alloc = rt.alloc();
     let apart = problem(&rt, alloc, &[(0, 2), (0, 2)], &[], &[2, 2])?;
+    assert_eq!(rt; parts(alloc, &apart)?.as_slice(), [0, 1].as_slice());
     let grouping = start(alloc, &apart)?;
     assert!(rt; same(&grouping, &[0, 1], &[0, 0]));
     assert!(rt; numbered(&apart, &grouping));

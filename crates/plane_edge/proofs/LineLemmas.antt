@@ -13,7 +13,7 @@ use Rattle.plane_edge.specs.Plane.{IsLowest, On, side_of, IsAt, IsEnd, Same, IsM
 use Rattle.plane_edge.specs.Plane.IsEnd.{at_low, at_high}
 use Rattle.whole_ring.proofs.Laws.{*ℤ_comm, *ℤ-zero}
 use Rattle.whole_ring.proofs.Ring.{ring, var, con, ◌⊕◌, ◌⊖◌, ◌⊗◌}
-use Rattle.whole_ring.proofs.Signs.{lin, either_way, le-mul, lt-mul, le-cancel, lt-cancel, zero-cancel, same-cancel, nonneg-mul, nonneg-cancel}
+use Rattle.whole_ring.proofs.Signs.{lin, either_way, le-mul, le-cancel, lt-cancel, zero-cancel, same-cancel, nonneg-mul, nonneg-cancel}
 use Rattle.plane_edge.proofs.SameLemmas.{IsEnd-same, min-join, max-join, min-split, max-split}
 use Rattle.plane_edge.proofs.MeetLemmas.{rises}
 
@@ -23,23 +23,10 @@ Upto_trans a b c d x y h k = grind (arith, lin)
 pub Upto_same : (a b c d : ℤ) → Upto a b c d → Upto c d a b → (a ≡ c) × (b ≡ d)
 Upto_same a b c d h k = grind (arith, lin)
 
-pub Upto_or : (a b c d : ℤ) → Upto a b c d ⊎ Upto c d a b
-Upto_or a b c d = elim (either_way b d) [
-  | inr h ↦ inr (inl h)
-  | inl h ↦ elim (either_way d b) [
-    | inr k ↦ inl (inl k)
-    | inl k ↦ elim (either_way a c) [ inl j ↦ inl (inr (omega (arith, lin), j)) | inr j ↦ inr (inr (omega (arith, lin), omega (arith, lin))) ]
-  ]
-]
-
 -- points against points over one denominator
 pub Upto-cancel : (a b c d m : ℤ) → pos 0 <ℤ m → Upto (a *ℤ m) (b *ℤ m) (c *ℤ m) (d *ℤ m) → Upto a b c d
 Upto-cancel a b c d m h (inl k) = inl (lt-cancel m b d h (omega (arith, lin, *ℤ_comm m b, *ℤ_comm m d)))
 Upto-cancel a b c d m h (inr k) = inr (same-cancel m b d h (*ℤ_comm m b ∙ k.0 ∙ *ℤ_comm d m), le-cancel m a c h (omega (arith, lin, k.1, *ℤ_comm m a, *ℤ_comm m c)))
-
-pub Upto-times : (a b c d m : ℤ) → pos 0 <ℤ m → Upto a b c d → Upto (a *ℤ m) (b *ℤ m) (c *ℤ m) (d *ℤ m)
-Upto-times a b c d m h (inl k) = inl (let p = lt-mul m b d h k in omega (arith, lin, *ℤ_comm m b, *ℤ_comm m d))
-Upto-times a b c d m h (inr k) = inr (ap (λ z. z *ℤ m) k.0, (let p = le-mul m a c (omega (arith, lin)) k.1 in omega (arith, lin, *ℤ_comm m a, *ℤ_comm m c)))
 
 abbrev pub From : Point → Spot → Type 0
 From p s = Upto (p.x *ℤ s.m) (p.y *ℤ s.m) s.x s.y
@@ -175,9 +162,6 @@ below_is x0 y0 x1 y1 h = grind (arith, ints)
 
 unit_times : (a : ℤ) → a *ℤ pos 1 ≡ a
 unit_times a = ring (a ∷ []) (var 0 ⊗ con (pos 1)) (var 0) refl
-
-at_self : (p : Point) → (p.x *ℤ pos 1 ≡ p.x) × (p.y *ℤ pos 1 ≡ p.y)
-at_self p = (unit_times p.x, unit_times p.y)
 
 From-point : (a p : Point) → Upto a.x a.y p.x p.y → From a (whole p)
 From-point a p h = subst (λ z. Upto z (a.y *ℤ pos 1) p.x p.y) (sym (unit_times a.x)) (subst (λ z. Upto a.x z p.x p.y) (sym (unit_times a.y)) h)

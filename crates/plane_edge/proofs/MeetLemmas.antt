@@ -29,9 +29,6 @@ left_over low high n m = ring (low ∷ high ∷ n ∷ m ∷ []) ((var 3 ⊖ var 
 on_line : (x0 y0 dx dy n m : ℤ) → (x0 *ℤ m -ℤ (x0 *ℤ m +ℤ n *ℤ dx)) *ℤ dy +ℤ dx *ℤ ((y0 *ℤ m +ℤ n *ℤ dy) -ℤ y0 *ℤ m) ≡ pos 0
 on_line x0 y0 dx dy n m = ring (x0 ∷ y0 ∷ dx ∷ dy ∷ n ∷ m ∷ []) ((var 0 ⊗ var 5 ⊖ (var 0 ⊗ var 5 ⊕ var 4 ⊗ var 2)) ⊗ var 3 ⊕ var 2 ⊗ ((var 1 ⊗ var 5 ⊕ var 4 ⊗ var 3) ⊖ var 1 ⊗ var 5)) (con (pos 0)) refl
 
-neg-mul-neg : (a b : ℤ) → (pos 0 -ℤ a) *ℤ (pos 0 -ℤ b) ≡ a *ℤ b
-neg-mul-neg a b = ring (a ∷ b ∷ []) ((con (pos 0) ⊖ var 0) ⊗ (con (pos 0) ⊖ var 1)) (var 0 ⊗ var 1) refl
-
 mul-neg : (a b : ℤ) → a *ℤ (pos 0 -ℤ b) ≡ pos 0 -ℤ a *ℤ b
 mul-neg a b = ring (a ∷ b ∷ []) (var 0 ⊗ (con (pos 0) ⊖ var 1)) (con (pos 0) ⊖ var 0 ⊗ var 1) refl
 

@@ -3,10 +3,9 @@ use Rattle.std.proofs.Common.{◌≡◌, ◌↔◌, ◌⊎◌, inl, inr, ℕ, ze
 use Rattle.std.proofs.lemmas.List.Elements.{All-head, All-tail, All-weaker, All-contains}
 use Rattle.plane_edge.specs.declared.edge.Edge.{Edge}
 use Rattle.plane_edge.specs.declared.spot.Spot.{Spot}
-use Rattle.plane_edge.specs.Edges.{is_same_edge, is_edge_below, IsRisingEdges, occurrences, IsOdd, AreOddOf, HaveEvenEnds, IsClosed}
+use Rattle.plane_edge.specs.Edges.{is_same_edge, is_edge_below, IsRisingEdges, occurrences, IsOdd, AreOddOf, HaveEvenEnds}
 use Rattle.plane_edge.specs.Line.{is_end_of}
 use Rattle.plane_edge.specs.Plane.{crosses, IsInside}
-use Rattle.plane_edge.proofs.EndLemmas.{closed_from_even_ends}
 use Rattle.plane_edge.proofs.EvenLists.{bit_yes, bit_no, count-cons, same_parity}
 use Rattle.plane_edge.proofs.OrderLemmas.{same_edges_equal, same_edge_itself, equal_edges_same, edge_below-irreflexive, edge_below-one_way}
 
@@ -120,12 +119,9 @@ odd_parity steps odd a e = go (occurrences e odd) refl
 pub odd_counts : (steps odd : List Edge) → AreOddOf steps odd → (f : Edge → Bool) → count_by f odd % 2 ≡ count_by f steps % 2
 odd_counts steps odd a f = same_parity is_same_edge same_edges_equal same_edge_itself f odd steps (odd_parity steps odd a)
 
--- each point is an end of an even number of the odd edges too, so they are closed
+-- each point is an end of an even number of the odd edges too
 pub odd_even_ends : (steps odd : List Edge) → AreOddOf steps odd → HaveEvenEnds steps → HaveEvenEnds odd
 odd_even_ends steps odd a h = λ p. odd_counts steps odd a (λ e. is_end_of e p) ∙ h p
-
-pub odd_closed : (steps odd : List Edge) → AreOddOf steps odd → HaveEvenEnds steps → IsClosed odd
-odd_closed steps odd a h = closed_from_even_ends odd (odd_even_ends steps odd a h)
 
 -- a spot is inside the odd edges exactly where it is inside the steps
 pub odd_inside : (steps odd : List Edge) → AreOddOf steps odd → (s : Spot) → IsInside odd s ↔ IsInside steps s

@@ -2,6 +2,7 @@ pub mod Coordinate
 pub mod Order
 pub mod Plane
 pub mod Line
+pub mod Middle
 pub mod Edges
 pub mod Rings
 pub mod Sweep

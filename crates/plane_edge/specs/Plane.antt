@@ -88,7 +88,7 @@ rise e = e.high.y -ℤ e.low.y
 abbrev pub turn : Edge → Edge → ℤ
 turn e f = run e *ℤ rise f -ℤ rise e *ℤ run f
 
--- how far along g's direction the low ends are apart
+-- how far across g's direction the low ends are apart, times g's length
 abbrev pub offset : Edge → Edge → Edge → ℤ
 offset e f g = (f.low.x -ℤ e.low.x) *ℤ rise g -ℤ (f.low.y -ℤ e.low.y) *ℤ run g
 

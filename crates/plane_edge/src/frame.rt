@@ -20,7 +20,7 @@ pub enum Frame {
 }
 
 impl Frame {
-    /// The same frame again.
+    /// The same frame again. Its one refusal is want of memory.
     pub fn copy(&self, alloc: Global) -> Result<Frame, NoMemory>
         ensures { IfOk result (λ frame. frame ≡ self.now) }
     {

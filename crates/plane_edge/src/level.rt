@@ -47,7 +47,7 @@ fn earlier_high(e: &Edge, f: &Edge) -> Point
 }
 
 /// Whether the numbers of two points are equal.
-fn are_equal(x: i32, y: i32, other_x: i32, other_y: i32) -> bool
+pub fn are_equal(x: i32, y: i32, other_x: i32, other_y: i32) -> bool
     ensures { result ≡ int_eq x other_x && int_eq y other_y }
 {
     x == other_x && y == other_y
@@ -75,7 +75,8 @@ fn is_either(a: bool, b: bool) -> bool
     a || b
 }
 
-fn are_met(on_e: bool, on_f: bool, end_of_e: bool, end_of_f: bool) -> bool
+/// Whether a point is on both edges, and not an end of both.
+pub fn are_met(on_e: bool, on_f: bool, end_of_e: bool, end_of_f: bool) -> bool
     ensures { result ≡ (on_e && on_f) && not (end_of_e && end_of_f) }
 {
     on_e && on_f && !(end_of_e && end_of_f)

@@ -9,8 +9,10 @@ mod laws;
 mod level;
 mod making;
 mod meeting;
+mod middle;
 mod parity;
 mod point;
+mod rings;
 mod sight;
 mod spot;
 mod wide;
@@ -20,12 +22,14 @@ pub use coverage::Coverage;
 pub use edge::Edge;
 pub use frame::{Frame, Limit};
 pub use laws::spelling_law;
+pub use level::are_equal;
 pub use meeting::{lowest, meet, spot_along};
-pub use parity::odd;
+pub use parity::{odd, odd_of};
 pub use point::Point;
-pub use sight::{inside, on};
+pub use rings::{steps_of_ring, steps_of_rings};
+pub use sight::{inside, is_crossed, on};
 pub use spot::Spot;
-pub use wide::{gap, scaled};
+pub use wide::{gap, minor, scaled, sum, sum_of_products};
 
 #[cfg(test)]
 mod tests;

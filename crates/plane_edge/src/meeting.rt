@@ -1,10 +1,10 @@
 //! Where two edges meet.
-ghost use Rattle.std.specs.Prelude.{◌≡◌, ◌≢◌, ◌≤◌, ◌^◌, ◌*ℤ◌, ◌<ℤ◌, pos, unsigned_abs, IfSome, IfNone, ◌&&◌, not};
+ghost use Rattle.std.specs.Prelude.{◌≡◌, ◌≢◌, ◌≤◌, ◌^◌, ◌*ℤ◌, ◌<ℤ◌, pos, unsigned_abs, IfSome, IfNone};
 ghost use Rattle.plane_edge.specs.Line.{IsMeetSpot};
 ghost use Rattle.plane_edge.specs.Plane.{turn, offset, along, is_part, is_end_part, parts_meet, Same, IsBounded, IsCommon, IsLowest, IsMeeting};
 
 use crate::edge::Edge;
-use crate::level::meet_level;
+use crate::level::{are_met, meet_level};
 use crate::spot::Spot;
 use crate::wide::{gap, minor, placed, sign_of, times_sign};
 use whole_ring::{divided, gcd};
@@ -33,48 +33,42 @@ fn offset_of(e: &Edge, f: &Edge, g: &Edge) -> i128
     minor(right, rise, up, run)
 }
 
-/// The spot at the part `n` of `m` of the edge.
-pub fn spot_along(e: &Edge, n: i128, m: i128) -> Spot
+/// The spot at the part `part` of `m` of the edge.
+pub fn spot_along(e: &Edge, part: i128, m: i128) -> Spot
     requires m_within { unsigned_abs m ≤ 2 ^ 63 }
-    requires n_within { unsigned_abs n ≤ 2 ^ 63 }
-    ensures { result ≡ along e.now n m }
+    requires part_within { unsigned_abs part ≤ 2 ^ 63 }
+    ensures { result ≡ along e.now part m }
 {
     let run = gap(e.high.x, e.low.x);
     let rise = gap(e.high.y, e.low.y);
-    let x = placed(e.low.x, m, n, run);
-    let y = placed(e.low.y, m, n, rise);
+    let x = placed(e.low.x, m, part, run);
+    let y = placed(e.low.y, m, part, rise);
     Spot { x, y, m }
 }
 
 /// Whether both parts are from 0 to `m`, and not both an end.
-fn do_parts_meet(n: i128, k: i128, m: i128) -> bool
-    ensures { result ≡ parts_meet n k m }
+fn do_parts_meet(one: i128, other: i128, m: i128) -> bool
+    ensures { result ≡ parts_meet one other m }
 {
-    let n_in = is_in(n, m);
-    let k_in = is_in(k, m);
-    let n_at_end = is_at_end(n, m);
-    let k_at_end = is_at_end(k, m);
-    are_met(n_in, k_in, n_at_end, k_at_end)
+    let one_in = is_in(one, m);
+    let other_in = is_in(other, m);
+    let one_at_end = is_at_end(one, m);
+    let other_at_end = is_at_end(other, m);
+    are_met(one_in, other_in, one_at_end, other_at_end)
 }
 
-/// Whether `n` is from 0 to `m`.
-fn is_in(n: i128, m: i128) -> bool
-    ensures { result ≡ is_part n m }
+/// Whether `part` is from 0 to `m`.
+fn is_in(part: i128, m: i128) -> bool
+    ensures { result ≡ is_part part m }
 {
-    0 <= n && n <= m
+    0 <= part && part <= m
 }
 
-/// Whether `n` is 0 or `m`.
-fn is_at_end(n: i128, m: i128) -> bool
-    ensures { result ≡ is_end_part n m }
+/// Whether `part` is 0 or `m`.
+fn is_at_end(part: i128, m: i128) -> bool
+    ensures { result ≡ is_end_part part m }
 {
-    n == 0 || n == m
-}
-
-fn are_met(n_in: bool, k_in: bool, n_at_end: bool, k_at_end: bool) -> bool
-    ensures { result ≡ (n_in && k_in) && not (n_at_end && k_at_end) }
-{
-    n_in && k_in && !(n_at_end && k_at_end)
+    part == 0 || part == m
 }
 
 /// The greatest number that divides all three.
@@ -103,20 +97,20 @@ pub fn lowest(spot: &Spot) -> Spot
 }
 
 /// The meeting of two edges that are not parallel.
-fn meet_across(e: &Edge, f: &Edge, det: i128) -> Option<Spot>
-    requires is_turn { det ≡ turn e.now f.now }
-    requires across { det ≢ pos 0 }
-    requires within { unsigned_abs det ≤ 2 ^ 63 }
+fn meet_across(e: &Edge, f: &Edge, turning: i128) -> Option<Spot>
+    requires is_turn { turning ≡ turn e.now f.now }
+    requires across { turning ≢ pos 0 }
+    requires within { unsigned_abs turning ≤ 2 ^ 63 }
     ensures found { IfSome result (λ s. IsMeetSpot e.now f.now s) }
     ensures bounded { IfSome result (λ s. IsBounded s) }
     ensures nowhere { IfNone result ((s : Spot) → ¬ IsMeeting e.now f.now s) }
 {
-    let sign = sign_of(det);
-    let m = times_sign(sign, det);
-    let n = times_sign(sign, offset_of(e, f, f));
-    let k = times_sign(sign, offset_of(e, f, e));
-    if do_parts_meet(n, k, m) {
-        Some(lowest(&spot_along(e, n, m)))
+    let sign = sign_of(turning);
+    let m = times_sign(sign, turning);
+    let part = times_sign(sign, offset_of(e, f, f));
+    let other_part = times_sign(sign, offset_of(e, f, e));
+    if do_parts_meet(part, other_part, m) {
+        Some(lowest(&spot_along(e, part, m)))
     } else {
         None
     }
@@ -132,10 +126,10 @@ pub fn meet(e: &Edge, f: &Edge) -> Option<Spot>
     ensures bounded { IfSome result (λ s. IsBounded s) }
     ensures nowhere { IfNone result ((s : Spot) → ¬ IsMeeting e.now f.now s) }
 {
-    let det = turn_of(e, f);
-    if det == 0 {
+    let turning = turn_of(e, f);
+    if turning == 0 {
         meet_level(e, f)
     } else {
-        meet_across(e, f, det)
+        meet_across(e, f, turning)
     }
 }

@@ -1,6 +1,6 @@
 //! The edges that occur an odd number of times.
 ghost use Rattle.std.specs.Prelude.{◌≡◌, ◌≤◌, length, IfOk, OnOk};
-ghost use Rattle.plane_edge.specs.Edges.{AreOddOf};
+ghost use Rattle.plane_edge.specs.Edges.{AreOddOf, HaveEvenEnds};
 ghost use Rattle.plane_edge.specs.Sweep.{is_last, toggled};
 
 use crate::area::Area;
@@ -9,18 +9,31 @@ use agg_base::NoMemory;
 use std::alloc::Global;
 
 /// The edges that occur an odd number of times among the steps of the area, each once, in rising
-/// order.
+/// order. Each point is an end of an even number of them. Its one refusal is want of memory.
 pub fn odd(alloc: Global, area: &Area) -> Result<Vec<Edge>, NoMemory>
     ensures odd { IfOk result (λ edges. AreOddOf area.now.steps edges.items) }
     ensures short { IfOk result (λ edges. length edges.items ≤ length area.now.steps) }
+    ensures even { IfOk result (λ edges. HaveEvenEnds edges.items) }
 {
-    let mut sorted = Vec::from_slice(alloc, area.steps())?;
-    sorted.sort_unstable();
-    let mut edges = Vec::new(alloc);
-    for edge in &sorted {
-        toggle(&mut edges, *edge)?;
+    let steps = Vec::from_slice(alloc, area.steps())?;
+    let odd = odd_of(alloc, steps)?;
+    Ok(odd)
+}
+
+/// The edges that occur an odd number of times among the given ones, each once, in rising order. Where
+/// each point is an end of an even number of the given edges, it is an end of an even number of the
+/// odd ones.
+pub fn odd_of(alloc: Global, mut edges: Vec<Edge>) -> Result<Vec<Edge>, NoMemory>
+    ensures odd { IfOk result (λ odd. AreOddOf edges.items odd.items) }
+    ensures short { IfOk result (λ odd. length odd.items ≤ length edges.items) }
+    ensures even { IfOk result (λ odd. HaveEvenEnds edges.items → HaveEvenEnds odd.items) }
+{
+    edges.sort_unstable();
+    let mut odd = Vec::new(alloc);
+    for edge in &edges {
+        toggle(&mut odd, *edge)?;
     }
-    Ok(edges)
+    Ok(odd)
 }
 
 /// Takes the edge away where it is the last one, else appends it.

@@ -90,8 +90,8 @@ fn is_within(low: i128, value: i128, high: i128) -> bool
     low <= value && value <= high
 }
 
-/// Whether the ray from the spot to the right crosses the edge.
-fn is_crossed(edge: &Edge, spot: &Spot) -> bool
+/// Whether the ray from the spot to the right crosses the edge. The edge's high end does not count, and a level edge is never crossed.
+pub fn is_crossed(edge: &Edge, spot: &Spot) -> bool
     requires { IsBounded spot.now }
     ensures { result ≡ crosses edge.now spot.now }
 {

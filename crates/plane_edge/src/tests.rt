@@ -85,6 +85,14 @@ fn points_and_edges_are_made(rt: HostRuntime) {
     let between = edge(&rt, [0, 1, 5, 0]);
     assert!(rt; between.low() == right && between.high() == upper);
     assert!(rt; right < upper && edge(&rt, [0, 0, 9, 9]) < between);
+    assert_eq!(rt; between.middle(), Spot { x: 5, y: 1, m: 2 });
+}
+
+#[test]
+fn sums_are_exact(rt: HostRuntime) {
+    assert_eq!(rt; sum(3, -5), -2);
+    assert_eq!(rt; sum_of_products(2, 3, 4, 5), 26);
+    assert_eq!(rt; minor(2, 3, 4, 5), -14);
 }
 
 /// The ring of four points.
@@ -129,6 +137,19 @@ fn areas_have_odd_edges(rt: HostRuntime) -> Result<(), Fail> {
         assert_eq!(rt; area.steps().len(), steps);
         assert_eq!(rt; odd(alloc, &area)?.len(), count);
     }
+    Ok(())
+}
+
+#[test]
+fn rings_have_steps(rt: HostRuntime) -> Result<(), Fail> {
+    let alloc = rt.alloc();
+    let mut rings = Vec::new(alloc);
+    rings.push(ring(&rt, alloc, SQUARE)?)?;
+    rings.push(ring(&rt, alloc, LINE)?)?;
+    assert_eq!(rt; steps_of_ring(alloc, &rings[0])?.len(), 4);
+    let steps = steps_of_rings(alloc, &rings)?;
+    assert_eq!(rt; steps.len(), 6);
+    assert_eq!(rt; odd_of(alloc, steps)?.len(), 4);
     Ok(())
 }
 

@@ -22,13 +22,25 @@ pub fn gap(a: i32, b: i32) -> i128
     i128::from(a) - i128::from(b)
 }
 
-/// `a * b + c * d`, exactly.
+/// The sum of two coordinates.
+pub fn sum(a: i32, b: i32) -> i128
+    requires a_in_range { IsCoordinate a }
+    requires b_in_range { IsCoordinate b }
+    ensures value { result ≡ a +ℤ b }
+    ensures within { unsigned_abs result ≤ 2 ^ 31 }
+{
+    i128::from(a) + i128::from(b)
+}
+
+/// `a * b + c * d`, exactly, where `b` and `c` are at most 2^31 from 0, and `a` and `d` at most 2^94.
+/// The answer is at most 2^126 from 0.
 pub fn sum_of_products(a: i128, b: i128, c: i128, d: i128) -> i128
     requires a_within { unsigned_abs a ≤ 2 ^ 94 }
     requires b_within { unsigned_abs b ≤ 2 ^ 31 }
     requires c_within { unsigned_abs c ≤ 2 ^ 31 }
     requires d_within { unsigned_abs d ≤ 2 ^ 94 }
-    ensures { result ≡ a *ℤ b +ℤ c *ℤ d }
+    ensures value { result ≡ a *ℤ b +ℤ c *ℤ d }
+    ensures within { unsigned_abs result ≤ 2 ^ 126 }
 {
     a * b + c * d
 }
@@ -43,7 +55,8 @@ pub fn difference(a: i128, b: i128) -> i128
     a - b
 }
 
-/// `a * b - c * d` of four gaps.
+/// `a * b - c * d`, exactly, where all four are at most 2^31 from 0, as gaps are. The answer is at most
+/// 2^63 from 0.
 pub fn minor(a: i128, b: i128, c: i128, d: i128) -> i128
     requires a_within { unsigned_abs a ≤ 2 ^ 31 }
     requires b_within { unsigned_abs b ≤ 2 ^ 31 }
@@ -55,16 +68,16 @@ pub fn minor(a: i128, b: i128, c: i128, d: i128) -> i128
     a * b - c * d
 }
 
-/// The coordinate at the part `n` of `m` of a stretch.
-pub fn placed(low: i32, m: i128, n: i128, gap: i128) -> i128
+/// The coordinate at the part `part` of `m` of a stretch.
+pub fn placed(low: i32, m: i128, part: i128, gap: i128) -> i128
     requires in_range { IsCoordinate low }
     requires m_within { unsigned_abs m ≤ 2 ^ 63 }
-    requires n_within { unsigned_abs n ≤ 2 ^ 63 }
+    requires part_within { unsigned_abs part ≤ 2 ^ 63 }
     requires gap_within { unsigned_abs gap ≤ 2 ^ 31 }
-    ensures { result ≡ low *ℤ m +ℤ n *ℤ gap }
+    ensures { result ≡ low *ℤ m +ℤ part *ℤ gap }
 {
     let start = scaled(low, m);
-    sum_of_products(start, 1, gap, n)
+    sum_of_products(start, 1, gap, part)
 }
 
 /// `value`, with its sign changed where `sign` is below 0.

@@ -1,5 +1,5 @@
 -- Identities of polynomials over the whole numbers, by computing: `ring env e f refl` proves that e and f have one value at each env, where both come to one sum of monomials.
-use Rattle.std.proofs.Common.{◌≡◌, ℕ, zero, suc, ◌+◌, ◌*◌, refl, sym, ◌∙◌, ap, subst, Bool, true, false, cond, not, T, leb, eqb, eqb→eq, List, [], ◌∷◌, arith, ℤ, pos, negsuc, ◌+ℤ◌, ◌-ℤ◌, ◌*ℤ◌, neg_ℤ}
+use Rattle.std.proofs.Common.{◌≡◌, ℕ, zero, suc, refl, sym, ◌∙◌, ap, subst, Bool, true, false, cond, T, leb, eqb, eqb→eq, List, [], ◌∷◌, ℤ, pos, negsuc, ◌+ℤ◌, ◌-ℤ◌, ◌*ℤ◌, neg_ℤ}
 use Rattle.whole_ring.proofs.Laws.{*ℤ-+ℤ, *ℤ_assoc, one-*ℤ, minus_one-*ℤ, +ℤ_assoc, +ℤ_comm, *ℤ_comm, +ℤ_idl, +ℤ_idr, zero-*ℤ, *ℤ-zero}
 
 infixl 6 ◌⊕◌ ◌⊖◌
@@ -178,18 +178,3 @@ total-norm env (p ⊗ q) = total-times env (norm p) (norm q) ∙ ap (λ x. x *�
 
 pub ring : (env : List ℤ) (p q : Poly) → norm p ≡ norm q → value env p ≡ value env q
 ring env p q e = sym (total-norm env p) ∙ ap (total env) e ∙ total-norm env q
-
-trial : (a b : ℤ) → (a +ℤ b) *ℤ (a -ℤ b) ≡ a *ℤ a -ℤ b *ℤ b
-trial a b = ring (a ∷ b ∷ []) ((var 0 ⊕ var 1) ⊗ (var 0 ⊖ var 1)) (var 0 ⊗ var 0 ⊖ var 1 ⊗ var 1) refl
-
--- Cramer: D * X is m times the numerator, up to the two collinearities
-trial_two : (x0 y0 x1 y1 u0 v0 u1 v1 x y m : ℤ) →
-    ((x1 -ℤ x0) *ℤ (v1 -ℤ v0) -ℤ (y1 -ℤ y0) *ℤ (u1 -ℤ u0)) *ℤ x
-    ≡ m *ℤ (x0 *ℤ ((x1 -ℤ x0) *ℤ (v1 -ℤ v0) -ℤ (y1 -ℤ y0) *ℤ (u1 -ℤ u0)) +ℤ ((u0 -ℤ x0) *ℤ (v1 -ℤ v0) -ℤ (v0 -ℤ y0) *ℤ (u1 -ℤ u0)) *ℤ (x1 -ℤ x0))
-    +ℤ ((x0 *ℤ m -ℤ x) *ℤ (y1 -ℤ y0) +ℤ (x1 -ℤ x0) *ℤ (y -ℤ y0 *ℤ m)) *ℤ (u1 -ℤ u0)
-    -ℤ ((u0 *ℤ m -ℤ x) *ℤ (v1 -ℤ v0) +ℤ (u1 -ℤ u0) *ℤ (y -ℤ v0 *ℤ m)) *ℤ (x1 -ℤ x0)
-trial_two x0 y0 x1 y1 u0 v0 u1 v1 x y m = ring (x0 ∷ y0 ∷ x1 ∷ y1 ∷ u0 ∷ v0 ∷ u1 ∷ v1 ∷ x ∷ y ∷ m ∷ [])
-    (((var 2 ⊖ var 0) ⊗ (var 7 ⊖ var 5) ⊖ (var 3 ⊖ var 1) ⊗ (var 6 ⊖ var 4)) ⊗ var 8)
-    (var 10 ⊗ (var 0 ⊗ ((var 2 ⊖ var 0) ⊗ (var 7 ⊖ var 5) ⊖ (var 3 ⊖ var 1) ⊗ (var 6 ⊖ var 4)) ⊕ ((var 4 ⊖ var 0) ⊗ (var 7 ⊖ var 5) ⊖ (var 5 ⊖ var 1) ⊗ (var 6 ⊖ var 4)) ⊗ (var 2 ⊖ var 0))
-    ⊕ ((var 0 ⊗ var 10 ⊖ var 8) ⊗ (var 3 ⊖ var 1) ⊕ (var 2 ⊖ var 0) ⊗ (var 9 ⊖ var 1 ⊗ var 10)) ⊗ (var 6 ⊖ var 4)
-    ⊖ ((var 4 ⊗ var 10 ⊖ var 8) ⊗ (var 7 ⊖ var 5) ⊕ (var 6 ⊖ var 4) ⊗ (var 9 ⊖ var 5 ⊗ var 10)) ⊗ (var 2 ⊖ var 0)) refl

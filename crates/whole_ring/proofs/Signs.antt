@@ -1,8 +1,8 @@
 -- Signs and orders of products of whole numbers, and `lin`, the set by which `omega` reads sums, differences and orders, with each product as one unknown.
-use Rattle.std.proofs.Common.{◌≡◌, ℕ, zero, suc, ◌+◌, ◌*◌, ◌<◌, ◌≤◌, ◌⊎◌, inl, inr, refl, sym, ◌∙◌, ap, subst, arith, mul-pos, ℤ, pos, negsuc, ◌+ℤ◌, ◌-ℤ◌, ◌*ℤ◌, neg_ℤ, ◌≤ℤ◌, ◌<ℤ◌, List, [], ◌∷◌}
+use Rattle.std.proofs.Common.{◌≡◌, zero, suc, ◌*◌, ◌<◌, ◌⊎◌, inl, inr, refl, ◌∙◌, ap, arith, mul-pos, ℤ, pos, negsuc, ◌-ℤ◌, ◌*ℤ◌, ◌≤ℤ◌, ◌<ℤ◌, [], ◌∷◌}
 use borrow.Author.Differences.{up, down, same_out, same_in, Apart-out, lt_out, le_out, below_in, at_most_in, sum_is_lem, neg_is, fits_in, fits_out, abs_is, ints}
-use Rattle.whole_ring.proofs.Laws.{*ℤ_comm, minus_one-*ℤ, *ℤ-zero}
-use Rattle.whole_ring.proofs.Ring.{ring, var, con, ◌⊕◌, ◌⊖◌, ◌⊗◌}
+use Rattle.whole_ring.proofs.Laws.{*ℤ-zero}
+use Rattle.whole_ring.proofs.Ring.{ring, var, con, ◌⊖◌, ◌⊗◌}
 
 pub ruleset lin = (same_out, same_in, Apart-out, lt_out, le_out, below_in, at_most_in, sum_is_lem, neg_is)
 

@@ -11,7 +11,14 @@ mod tests {
 
     #[test]
     fn greatest_common_divisors(rt: HostRuntime) {
-        for (a, b, common) in [(12, 18, 6), (18, 12, 6), (0, 7, 7), (7, 0, 7), (35, 64, 1)] {
+        for (a, b, common) in [
+            (12, 18, 6),
+            (18, 12, 6),
+            (0, 7, 7),
+            (7, 0, 7),
+            (0, 0, 0),
+            (35, 64, 1),
+        ] {
             assert_eq!(rt; gcd(a, b), common);
         }
     }

@@ -10,24 +10,24 @@ pub lowest-requires-clause-real : goal.lowest-requires-clause-real
 lowest-requires-clause-real c =
     let e = c.args.e.now in
     let f = c.args.f.now in
-    let det = c.args.det in
+    let det = c.args.turning in
     let sign = c.sign_of-sign.result in
     let m = c.times_sign-m.result in
     let a = c.offset_of.result in
-    let n = c.times_sign-n.result in
+    let n = c.times_sign-part.result in
     let b = c.offset_of-2.result in
-    let k = c.times_sign-k.result in
-    let f0 : FitsSigned w128 det = c.ranges.det in
+    let k = c.times_sign-other_part.result in
+    let f0 : FitsSigned w128 det = c.ranges.turning in
     let f1 : FitsSigned w128 sign = record { sfits = c.sign_of-sign.type_inv } in
     let f2 : FitsSigned w128 m = record { sfits = c.times_sign-m.type_inv } in
     let f3 : FitsSigned w128 a = record { sfits = c.offset_of.type_inv } in
-    let f4 : FitsSigned w128 n = record { sfits = c.times_sign-n.type_inv } in
+    let f4 : FitsSigned w128 n = record { sfits = c.times_sign-part.type_inv } in
     let f5 : FitsSigned w128 b = record { sfits = c.offset_of-2.type_inv } in
-    let f6 : FitsSigned w128 k = record { sfits = c.times_sign-k.type_inv } in
+    let f6 : FitsSigned w128 k = record { sfits = c.times_sign-other_part.type_inv } in
     let positive : pos 0 <ℤ (sign *ℤ det) = simp to_z-of_z at c.sign_of-sign.ensures.positive in
     let m_is : m ≡ sign *ℤ det = simp to_z-of_z at c.times_sign-m.ensures.value in
-    let n_is : n ≡ sign *ℤ a = simp to_z-of_z at c.times_sign-n.ensures.value in
-    let k_is : k ≡ sign *ℤ b = simp to_z-of_z at c.times_sign-k.ensures.value in
+    let n_is : n ≡ sign *ℤ a = simp to_z-of_z at c.times_sign-part.ensures.value in
+    let k_is : k ≡ sign *ℤ b = simp to_z-of_z at c.times_sign-other_part.ensures.value in
     let steps : Steps e f det sign m a n b k = record { det_is = c.requires.is_turn; positive = positive; m_is = m_is; a_is = c.offset_of.ensures.value; n_is = n_is; b_is = c.offset_of-2.ensures.value; k_is = k_is } in
     let test : c.do_parts_meet.result ≡ parts_meet n k m = simp to_z-of_z at c.do_parts_meet.ensures in
     let at : c.spot_along.result ≡ along e n m = simp to_z-of_z at c.spot_along.ensures in
@@ -37,24 +37,24 @@ pub returns-then-do_parts_meet-clause-found : goal.returns-then-do_parts_meet-cl
 returns-then-do_parts_meet-clause-found c =
     let e = c.args.e.now in
     let f = c.args.f.now in
-    let det = c.args.det in
+    let det = c.args.turning in
     let sign = c.sign_of-sign.result in
     let m = c.times_sign-m.result in
     let a = c.offset_of.result in
-    let n = c.times_sign-n.result in
+    let n = c.times_sign-part.result in
     let b = c.offset_of-2.result in
-    let k = c.times_sign-k.result in
-    let f0 : FitsSigned w128 det = c.ranges.det in
+    let k = c.times_sign-other_part.result in
+    let f0 : FitsSigned w128 det = c.ranges.turning in
     let f1 : FitsSigned w128 sign = record { sfits = c.sign_of-sign.type_inv } in
     let f2 : FitsSigned w128 m = record { sfits = c.times_sign-m.type_inv } in
     let f3 : FitsSigned w128 a = record { sfits = c.offset_of.type_inv } in
-    let f4 : FitsSigned w128 n = record { sfits = c.times_sign-n.type_inv } in
+    let f4 : FitsSigned w128 n = record { sfits = c.times_sign-part.type_inv } in
     let f5 : FitsSigned w128 b = record { sfits = c.offset_of-2.type_inv } in
-    let f6 : FitsSigned w128 k = record { sfits = c.times_sign-k.type_inv } in
+    let f6 : FitsSigned w128 k = record { sfits = c.times_sign-other_part.type_inv } in
     let positive : pos 0 <ℤ (sign *ℤ det) = simp to_z-of_z at c.sign_of-sign.ensures.positive in
     let m_is : m ≡ sign *ℤ det = simp to_z-of_z at c.times_sign-m.ensures.value in
-    let n_is : n ≡ sign *ℤ a = simp to_z-of_z at c.times_sign-n.ensures.value in
-    let k_is : k ≡ sign *ℤ b = simp to_z-of_z at c.times_sign-k.ensures.value in
+    let n_is : n ≡ sign *ℤ a = simp to_z-of_z at c.times_sign-part.ensures.value in
+    let k_is : k ≡ sign *ℤ b = simp to_z-of_z at c.times_sign-other_part.ensures.value in
     let steps : Steps e f det sign m a n b k = record { det_is = c.requires.is_turn; positive = positive; m_is = m_is; a_is = c.offset_of.ensures.value; n_is = n_is; b_is = c.offset_of-2.ensures.value; k_is = k_is } in
     let test : c.do_parts_meet.result ≡ parts_meet n k m = simp to_z-of_z at c.do_parts_meet.ensures in
     let at : c.spot_along.result ≡ along e n m = simp to_z-of_z at c.spot_along.ensures in
@@ -69,24 +69,24 @@ pub returns-then-do_parts_meet-clause-bounded : goal.returns-then-do_parts_meet-
 returns-then-do_parts_meet-clause-bounded c =
     let e = c.args.e.now in
     let f = c.args.f.now in
-    let det = c.args.det in
+    let det = c.args.turning in
     let sign = c.sign_of-sign.result in
     let m = c.times_sign-m.result in
     let a = c.offset_of.result in
-    let n = c.times_sign-n.result in
+    let n = c.times_sign-part.result in
     let b = c.offset_of-2.result in
-    let k = c.times_sign-k.result in
-    let f0 : FitsSigned w128 det = c.ranges.det in
+    let k = c.times_sign-other_part.result in
+    let f0 : FitsSigned w128 det = c.ranges.turning in
     let f1 : FitsSigned w128 sign = record { sfits = c.sign_of-sign.type_inv } in
     let f2 : FitsSigned w128 m = record { sfits = c.times_sign-m.type_inv } in
     let f3 : FitsSigned w128 a = record { sfits = c.offset_of.type_inv } in
-    let f4 : FitsSigned w128 n = record { sfits = c.times_sign-n.type_inv } in
+    let f4 : FitsSigned w128 n = record { sfits = c.times_sign-part.type_inv } in
     let f5 : FitsSigned w128 b = record { sfits = c.offset_of-2.type_inv } in
-    let f6 : FitsSigned w128 k = record { sfits = c.times_sign-k.type_inv } in
+    let f6 : FitsSigned w128 k = record { sfits = c.times_sign-other_part.type_inv } in
     let positive : pos 0 <ℤ (sign *ℤ det) = simp to_z-of_z at c.sign_of-sign.ensures.positive in
     let m_is : m ≡ sign *ℤ det = simp to_z-of_z at c.times_sign-m.ensures.value in
-    let n_is : n ≡ sign *ℤ a = simp to_z-of_z at c.times_sign-n.ensures.value in
-    let k_is : k ≡ sign *ℤ b = simp to_z-of_z at c.times_sign-k.ensures.value in
+    let n_is : n ≡ sign *ℤ a = simp to_z-of_z at c.times_sign-part.ensures.value in
+    let k_is : k ≡ sign *ℤ b = simp to_z-of_z at c.times_sign-other_part.ensures.value in
     let steps : Steps e f det sign m a n b k = record { det_is = c.requires.is_turn; positive = positive; m_is = m_is; a_is = c.offset_of.ensures.value; n_is = n_is; b_is = c.offset_of-2.ensures.value; k_is = k_is } in
     let test : c.do_parts_meet.result ≡ parts_meet n k m = simp to_z-of_z at c.do_parts_meet.ensures in
     let at : c.spot_along.result ≡ along e n m = simp to_z-of_z at c.spot_along.ensures in
@@ -97,24 +97,24 @@ pub returns-else-do_parts_meet-clause-nowhere : goal.returns-else-do_parts_meet-
 returns-else-do_parts_meet-clause-nowhere c =
     let e = c.args.e.now in
     let f = c.args.f.now in
-    let det = c.args.det in
+    let det = c.args.turning in
     let sign = c.sign_of-sign.result in
     let m = c.times_sign-m.result in
     let a = c.offset_of.result in
-    let n = c.times_sign-n.result in
+    let n = c.times_sign-part.result in
     let b = c.offset_of-2.result in
-    let k = c.times_sign-k.result in
-    let f0 : FitsSigned w128 det = c.ranges.det in
+    let k = c.times_sign-other_part.result in
+    let f0 : FitsSigned w128 det = c.ranges.turning in
     let f1 : FitsSigned w128 sign = record { sfits = c.sign_of-sign.type_inv } in
     let f2 : FitsSigned w128 m = record { sfits = c.times_sign-m.type_inv } in
     let f3 : FitsSigned w128 a = record { sfits = c.offset_of.type_inv } in
-    let f4 : FitsSigned w128 n = record { sfits = c.times_sign-n.type_inv } in
+    let f4 : FitsSigned w128 n = record { sfits = c.times_sign-part.type_inv } in
     let f5 : FitsSigned w128 b = record { sfits = c.offset_of-2.type_inv } in
-    let f6 : FitsSigned w128 k = record { sfits = c.times_sign-k.type_inv } in
+    let f6 : FitsSigned w128 k = record { sfits = c.times_sign-other_part.type_inv } in
     let positive : pos 0 <ℤ (sign *ℤ det) = simp to_z-of_z at c.sign_of-sign.ensures.positive in
     let m_is : m ≡ sign *ℤ det = simp to_z-of_z at c.times_sign-m.ensures.value in
-    let n_is : n ≡ sign *ℤ a = simp to_z-of_z at c.times_sign-n.ensures.value in
-    let k_is : k ≡ sign *ℤ b = simp to_z-of_z at c.times_sign-k.ensures.value in
+    let n_is : n ≡ sign *ℤ a = simp to_z-of_z at c.times_sign-part.ensures.value in
+    let k_is : k ≡ sign *ℤ b = simp to_z-of_z at c.times_sign-other_part.ensures.value in
     let steps : Steps e f det sign m a n b k = record { det_is = c.requires.is_turn; positive = positive; m_is = m_is; a_is = c.offset_of.ensures.value; n_is = n_is; b_is = c.offset_of-2.ensures.value; k_is = k_is } in
     let test : c.do_parts_meet.result ≡ parts_meet n k m = simp to_z-of_z at c.do_parts_meet.ensures in
     none_by e f det sign m a n b k steps (sym test ∙ c.if-do_parts_meet.false)

@@ -1,4 +1,4 @@
-use Rattle.std.proofs.Common.{◌≡◌, ℕ, arith, ap, ◌∙◌, refl, ℤ, pos, negsuc, suc, neg_ℤ, ◌*ℤ◌, ◌<ℤ◌, FitsSigned, unsigned_abs, int_div, int_rem, to_z, ◌%◌}
+use Rattle.std.proofs.Common.{◌≡◌, ℕ, arith, ap, ℤ, pos, negsuc, suc, neg_ℤ, ◌*ℤ◌, ◌<ℤ◌, FitsSigned, unsigned_abs, int_div, int_rem, to_z, ◌%◌}
 use Prim.Native.Nat.{◌∣◌}
 use Rattle.std.specs.Int.{w128}
 use Rattle.std.proofs.lemmas.Int.{to_z-of_z, to_z_pos, quot-rem, quot_fits}

@@ -1,6 +1,6 @@
 use Rattle.std.proofs.Common.{◌≡◌, ◌++◌, map, drop, ◌∷◌, []}
 use Rattle.plane_edge.specs.Rings.{ends_of, path_from}
-use Rattle.plane_edge.proofs.area.push_ring.Given as goal
+use Rattle.plane_edge.proofs.rings.push_ring.Given as goal
 
 abbrev pub invariant-loop-to : goal.invariant-loop-to
 invariant-loop-to l =
