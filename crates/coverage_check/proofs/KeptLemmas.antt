@@ -1,53 +1,24 @@
 -- The list of odd edges, and that there is just one.
-use Rattle.std.proofs.Common.{◌≡◌, ◌≢◌, ℕ, zero, suc, ◌+◌, ◌%◌, ◌<◌, ◌≤◌, ◌⊎◌, inl, inr, refl, sym, ◌∙◌, ap, subst, arith, Bool, true, false, true≢false, cond, List, [], ◌∷◌, ◌++◌, length, get_or, take, map, All, Contains, append-nil}
+use Rattle.std.proofs.Common.{◌≡◌, ℕ, zero, suc, ◌+◌, ◌%◌, ◌<◌, ◌≤◌, ◌⊎◌, inl, inr, refl, sym, ◌∙◌, ap, subst, arith, Bool, true, false, true≢false, cond, List, [], ◌∷◌, ◌++◌, length, get_or, take, map, All, Contains, append-nil}
 use Rattle.std.specs.List.{filter}
-use Rattle.std.proofs.lemmas.List.Elements.{All-nil, All-cons, All-head, All-tail, All-weaker, All-contains, All-push, filter-append}
+use Rattle.std.proofs.lemmas.List.Elements.{All-nil, All-cons, All-head, All-tail, All-weaker, All-push, filter-append}
 use Rattle.std.proofs.lemmas.List.{map_more}
 use Rattle.plane_edge.specs.declared.edge.Edge.{Edge}
 use Rattle.plane_edge.specs.Edges.{is_same_edge, is_edge_below, IsRisingEdges, occurrences, AreOddOf, HaveEvenEnds}
 use Rattle.plane_edge.proofs.EvenLists.{bit}
-use Rattle.plane_edge.proofs.OrderLemmas.{same_edges_equal, same_edge_itself, edge_below-trans, edge_below-irreflexive, edge_below-one_way, edge_case, below, same, above}
-use Rattle.plane_edge.proofs.OddLemmas.{odd_from_parity, occurrences-cons}
+use Rattle.plane_edge.proofs.OrderLemmas.{same_edges_equal, equal_edges_same, edge_below-trans, edge_below-irreflexive, edge_below-one_way, edge_case, below, same, above}
+use Rattle.plane_edge.proofs.OddLemmas.{odd_from_parity, odd_unique, occurrences-cons}
 use Rattle.plane_edge.specs.Rings.{Outline}
 use Rattle.coverage_check.specs.Kept.{toggled, odd_list, odd_part, has_edge, kept_of}
 use Rattle.coverage_check.specs.Parts.{IsOddPart}
-use Rattle.coverage_check.proofs.Counts.{Contains-later}
 
--- ---- two rising lists with the same edges are the same
+-- ---- elements
 pub Contains-cases : {X : Type 0} (x y : X) (xs : List X) → Contains (x ∷ xs) y → (x ≡ y) ⊎ Contains xs y
 Contains-cases {X} x y xs c = go c.0 c.1 c.2
   where
     go : (k : ℕ) → k < length (x ∷ xs) → get_or (x ∷ xs) k y ≡ y → (x ≡ y) ⊎ Contains xs y
     go zero l e = inl e
     go (suc k) l e = inr (k, omega arith, e)
-
-first_of_both : (x y : Edge) (xs ys : List Edge) → All (λ f. is_edge_below x f ≡ true) xs → All (λ f. is_edge_below y f ≡ true) ys → Contains (y ∷ ys) x → Contains (x ∷ xs) y → x ≡ y
-first_of_both x y xs ys px py cx cy = elim (Contains-cases y x ys cx) [
-  | inl e ↦ sym e
-  | inr c ↦ elim (Contains-cases x y xs cy) [
-    | inl e ↦ e
-    | inr d ↦ (let a = All-contains (λ f. is_edge_below y f ≡ true) ys x py c in let b = All-contains (λ f. is_edge_below x f ≡ true) xs y px d in absurd (true≢false (sym a ∙ edge_below-one_way x y b)))
-  ]
-]
-
-keeps_out : (x e : Edge) (xs : List Edge) → All (λ f. is_edge_below x f ≡ true) xs → Contains xs e → x ≢ e
-keeps_out x e xs p c q = true≢false (sym (subst (λ (g : Edge). is_edge_below x g ≡ true) (sym q) (All-contains (λ f. is_edge_below x f ≡ true) xs e p c)) ∙ edge_below-irreflexive x)
-
--- what both have behind an equal first edge
-behind : (x y e : Edge) (xs ys : List Edge) → x ≡ y → All (λ f. is_edge_below x f ≡ true) xs → (Contains (x ∷ xs) e → Contains (y ∷ ys) e) → Contains xs e → Contains ys e
-behind x y e xs ys first p to c = elim (Contains-cases y e ys (to (Contains-later x e xs c))) [
-  | inl q ↦ absurd (keeps_out x e xs p c (first ∙ q))
-  | inr d ↦ d
-]
-
-pub rising_same : (xs ys : List Edge) → IsRisingEdges xs → IsRisingEdges ys → ((e : Edge) → Contains xs e → Contains ys e) → ((e : Edge) → Contains ys e → Contains xs e) → xs ≡ ys
-rising_same [] [] r s to back = refl
-rising_same [] (y ∷ ys) r s to back = let c = back y (0, omega arith, refl) in absurd (omega (arith, c.1))
-rising_same (x ∷ xs) [] r s to back = let c = to x (0, omega arith, refl) in absurd (omega (arith, c.1))
-rising_same (x ∷ xs) (y ∷ ys) r s to back =
-    let e = first_of_both x y xs ys r.0 s.0 (to x (0, omega arith, refl)) (back y (0, omega arith, refl)) in
-    let rest = rising_same xs ys r.1 s.1 (λ f c. behind x y f xs ys e r.0 (to f) c) (λ f c. behind y x f ys xs (sym e) s.0 (back f) c) in
-    ap (λ (z : Edge). z ∷ xs) e ∙ ap (λ (zs : List Edge). y ∷ zs) rest
 
 -- ---- the list of the odd edges
 toggled_same : (e f : Edge) (fs : List Edge) → is_same_edge e f ≡ true → toggled e (f ∷ fs) ≡ fs
@@ -73,9 +44,6 @@ not_same_above e f h = go (is_same_edge e f) refl
     go true k = absurd (true≢false (sym (subst (λ (g : Edge). is_edge_below f g ≡ true) (same_edges_equal e f k) h) ∙ edge_below-irreflexive f))
     go false k = refl
 
-same_of : (e f : Edge) → e ≡ f → is_same_edge e f ≡ true
-same_of e f h = subst (λ (g : Edge). is_same_edge e g ≡ true) h (same_edge_itself e)
-
 -- the three shapes of the list
 pub data Toggling (e f : Edge) (fs : List Edge) : Type 0 where
   out : e ≡ f → toggled e (f ∷ fs) ≡ fs → Toggling e f fs
@@ -84,7 +52,7 @@ pub data Toggling (e f : Edge) (fs : List Edge) : Type 0 where
 
 toggling : (e f : Edge) (fs : List Edge) → Toggling e f fs
 toggling e f fs = elim (edge_case e f) [
-  | same h ↦ out h (toggled_same e f fs (same_of e f h))
+  | same h ↦ out h (toggled_same e f fs (equal_edges_same e f h))
   | below h ↦ before h (toggled_below e f fs (not_same e f h) h)
   | above h ↦ after h (toggled_above e f fs (not_same_above e f h) (edge_below-one_way f e h))
 ]
@@ -134,9 +102,7 @@ pub odd_list_odd : (steps : List Edge) → AreOddOf steps (odd_list steps)
 odd_list_odd steps = odd_from_parity steps (odd_list steps) (odd_list_rising steps) (λ g. odd_list_parity g steps)
 
 pub odd_list_only : (steps odd : List Edge) → AreOddOf steps odd → odd ≡ odd_list steps
-odd_list_only steps odd a =
-    let b = odd_list_odd steps in
-    rising_same odd (odd_list steps) a.rising b.rising (λ e c. (b.exact e).1 ((a.exact e).0 c)) (λ e c. (a.exact e).1 ((b.exact e).0 c))
+odd_list_only steps odd a = odd_unique steps odd (odd_list steps) a (odd_list_odd steps)
 
 abbrev pub outline : List ℕ → List Edge → Outline
 outline c es = record { class = c; steps = es }

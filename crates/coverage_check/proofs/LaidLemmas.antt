@@ -11,6 +11,7 @@ use Rattle.plane_edge.specs.declared.spot.Spot.{Spot}
 use Rattle.plane_edge.specs.Coordinate.{IsCoordinate}
 use Rattle.plane_edge.specs.Edges.{is_edge_below, IsRisingEdges, reaches, IsClosed}
 use Rattle.plane_edge.specs.Plane.{IsInside, crosses, side_of}
+use Rattle.plane_edge.proofs.OddLemmas.{rising_unique}
 use Rattle.plane_strip.specs.Strip.{IsPlanar, IsRising, EndsAt}
 use Rattle.plane_strip.proofs.LeastLemmas.{reach_parts}
 use Rattle.plane_strip.proofs.MidLemmas.{test_range}
@@ -26,7 +27,7 @@ use Rattle.coverage_check.specs.Uses.{AreUsesOf, AreEdgesOf}
 use Rattle.coverage_check.specs.Areas.{is_this}
 use Rattle.coverage_check.specs.Walk.{is_of, odds_in}
 use Rattle.coverage_check.proofs.Counts.{count_same, count-filter, Contains-later, Contains-map, from_map}
-use Rattle.coverage_check.proofs.KeptLemmas.{Contains-cases, rising_same}
+use Rattle.coverage_check.proofs.KeptLemmas.{Contains-cases}
 
 -- ---- filters
 pub in_filter : {X : Type 0} (p : X → Bool) (x : X) (xs : List X) → Contains xs x → p x ≡ true → Contains (filter p xs) x
@@ -118,7 +119,7 @@ border_edge odds us es bs hs l b c = l.edges.complete b.first b.edge (l.borders.
 
 -- the edges of an area's borders are its odd edges that are not level
 of_area : (odds : List (List Edge)) (us : List Use) (es : List Edge) (bs : List Border) (hs : List ℤ) → AreListed odds us es bs hs → (a : ℕ) → filter steep (odd_of odds a) ≡ odds_in bs a
-of_area odds us es bs hs l a = rising_same (filter steep (odd_of odds a)) (odds_in bs a) (rising-filter steep (odd_of odds a) (l.rising a)) (rising_from (filter (λ b. is_of a b) bs) (AllPairs-filter (λ (b c : Border). IsTrue (is_edge_below b.edge c.edge)) (λ b. is_of a b) bs l.borders.in_order))
+of_area odds us es bs hs l a = rising_unique (filter steep (odd_of odds a)) (odds_in bs a) (rising-filter steep (odd_of odds a) (l.rising a)) (rising_from (filter (λ b. is_of a b) bs) (AllPairs-filter (λ (b c : Border). IsTrue (is_edge_below b.edge c.edge)) (λ b. is_of a b) bs l.borders.in_order))
     (λ e c. (let f = from_filter steep e (odd_of odds a) c in
     let b = l.borders.complete a e ((l.uses.exact a e).1 f.0) (steep_from e f.1) in
     let m = in_filter (λ b. is_of a b) b.0 bs b.1.0 b.1.1.1 in

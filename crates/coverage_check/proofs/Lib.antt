@@ -11,5 +11,6 @@ pub mod BorderLemmas
 pub mod LaidLemmas
 pub mod FinalLemmas
 pub mod PartnerLemmas
+pub mod SpanLemmas
 pub mod SharedLemmas
 pub mod CheckLemmas

@@ -10,6 +10,7 @@ pub mod Heights
 pub mod Kept
 pub mod Bordering
 pub mod Partners
+pub mod Spans
 pub mod Fault
 pub mod Parts
 pub mod Checked

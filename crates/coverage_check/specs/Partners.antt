@@ -1,5 +1,5 @@
 -- Which of the later edges meets an edge first.
-use Rattle.std.specs.Prelude.{◌<◌, Bool, ◌&&◌, ℕ, ℤ, int_le, List, length, slice_index_or}
+use Rattle.std.specs.Prelude.{◌≡◌, ◌<◌, ◌≤◌, Bool, false, ◌&&◌, ℕ, ℤ, ◌<ℤ◌, int_le, List, length, slice_index_or}
 use Rattle.std.specs.Int.{int_min, int_max}
 use Rattle.plane_edge.specs.Line.{IsMeetSpot}
 use Rattle.plane_edge.specs.Plane.{IsMeeting}
@@ -16,6 +16,14 @@ right_of e = int_max e.low.x e.high.x
 -- the edge has an x from left to right
 abbrev pub is_across : Edge → ℤ → ℤ → Bool
 is_across f left right = int_le (left_of f) right && int_le left (right_of f)
+
+-- of the edges from i to before n each ends left of x
+abbrev pub AreLeft : List Edge → ℕ → ℕ → ℤ → Type 0
+AreLeft es i n x = (j : ℕ) (d : Edge) → i ≤ j → j < n → right_of (slice_index_or es j d) <ℤ x
+
+-- of the edges from i to before n none has an x from left to right
+abbrev pub AreBeside : List Edge → ℕ → ℕ → ℤ → ℤ → Type 0
+AreBeside es i n left right = (j : ℕ) (d : Edge) → i ≤ j → j < n → is_across (slice_index_or es j d) left right ≡ false
 
 -- the edges have no meeting
 abbrev pub NeverMeet : Edge → Edge → Type 0

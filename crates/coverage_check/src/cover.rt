@@ -58,7 +58,7 @@ fn first_fault(alloc: Global, areas: &[OddArea]) -> Result<(), CoverFault>
 {
     let uses = uses_of(alloc, areas)?;
     let edges = edges_of(alloc, &uses)?;
-    if let Some(crossing) = first_crossing(&edges) {
+    if let Some(crossing) = first_crossing(alloc, &edges)? {
         return Err(CoverFault::Crossing {
             e: crossing.e,
             f: crossing.f,
@@ -92,13 +92,19 @@ fn checked(alloc: Global, coverage: Coverage) -> Result<Checked, CoverFault>
     Ok(assemble(areas, coverage))
 }
 
-/// Whether no point lies on two different odd edges unless it is an end of both, no edge is odd in
-/// three areas, and no point is inside two areas, over all rational points.
+/// The checked map of the areas that have an odd edge, where no point lies on two different odd edges
+/// unless it is an end of both, no edge is odd in three areas, and no point is inside two areas, over
+/// all rational points.
 ///
 /// The odd edges of an area are those that occur an odd number of times among its steps. Areas
 /// without an odd edge are passed over and counted; the others are numbered again in their order, and
-/// the faults name them by their new numbers. The faults are tested in their order. The answer is the
-/// same for every crew.
+/// the faults name them by their new numbers. The answer is the same for every crew.
+///
+/// # Errors
+///
+/// The first that comes of: `Crossing`, where two different odd edges have a point in common that is
+/// not an end of both; `Shared`, where an edge is odd in three areas; `Overlap`, where a point is
+/// inside two areas. `Memory` at any time, where memory is wanting.
 pub fn check<W: Crew>(alloc: Global, coverage: Coverage, crew: &W) -> Result<Checked, CoverFault>
     ensures areas { IfOk result (λ c. c.areas ≡ kept_of coverage.areas.items) }
     ensures passed { IfOk result (λ c. c.passed + length c.areas ≡ coverage.passed + length coverage.areas.items) }

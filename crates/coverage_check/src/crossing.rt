@@ -1,13 +1,18 @@
 //! The first two edges that cross.
-ghost use Rattle.std.specs.Prelude.{◌≡◌, ◌≢◌, ◌≤◌, ◌<◌, ◌+◌, ◌&&◌, IsTrue, IfSome, IfNone, Contains, length, int_lt};
+ghost use Rattle.std.specs.Prelude.{◌≡◌, ◌≢◌, ◌≤◌, ◌<◌, ◌+◌, ◌&&◌, IsTrue, IfOk, IfSome, IfNone, Contains, length, int_lt};
 ghost use Rattle.std.specs.Int.{int_min, int_max};
 ghost use Rattle.plane_edge.specs.Edges.{is_edge_below, IsRisingEdges};
 ghost use Rattle.plane_edge.specs.Line.{IsMeetSpot};
 ghost use Rattle.plane_strip.specs.Strip.{IsPlanar};
 ghost use Rattle.coverage_check.specs.Crossing.{IsFirstCrossing};
+ghost use Rattle.coverage_check.specs.Spans.{AreSpans};
 ghost use Rattle.coverage_check.specs.Partners.{left_of, right_of, is_across, NeverMeet, MeetsNone, IsFirstPartner};
 
+use crate::beside::next_across;
+use crate::span::{Span, left_of, right_of, spans_of};
+use agg_base::NoMemory;
 use plane_edge::{Edge, Spot, meet};
+use std::alloc::Global;
 
 /// Two edges that cross, the lesser first, and the spot of `meet`.
 #[derive(Clone, Copy, Debug, PartialEq, Eq)]
@@ -19,35 +24,38 @@ pub struct Crossing {
 
 /// The first pair of the edges that cross: the least edge that crosses another, and the least one
 /// that it crosses.
-pub fn first_crossing(edges: &[Edge]) -> Option<Crossing>
+pub fn first_crossing(alloc: Global, edges: &[Edge]) -> Result<Option<Crossing>, NoMemory>
     requires { IsRisingEdges edges.now }
-    ensures found { IfSome result (λ c. IsFirstCrossing (Contains edges.now) c.e c.f c.spot) }
-    ensures none { IfNone result (IsPlanar edges.now) }
+    ensures found { IfOk result (λ r. IfSome r (λ c. IsFirstCrossing (Contains edges.now) c.e c.f c.spot)) }
+    ensures none { IfOk result (λ r. IfNone r (IsPlanar edges.now)) }
 {
+    let spans = spans_of(alloc, edges)?;
     for at in 0..edges.len() {
-        if let Some((place, spot)) = first_partner(edges, at) {
-            return Some(Crossing {
+        if let Some((place, spot)) = first_partner(edges, &spans, at) {
+            return Ok(Some(Crossing {
                 e: edges[at],
                 f: edges[place],
                 spot,
-            });
+            }));
         }
     }
-    None
+    Ok(None)
 }
 
 /// The place of the first later edge that crosses the one at `at`, and the spot where. Only those are
-/// tried that begin no higher than that one ends.
-fn first_partner(edges: &[Edge], at: usize) -> Option<(usize, Spot)>
+/// tried that begin no higher than that one ends, and of those beside it only a few.
+fn first_partner(edges: &[Edge], spans: &[Span], at: usize) -> Option<(usize, Spot)>
     requires rising { IsRisingEdges edges.now }
+    requires spans { AreSpans edges.now (length edges.now) spans.now }
     requires within { at < length edges.now }
     ensures found { IfSome result (λ r. IsFirstPartner edges.now at r.0 r.1) }
     ensures none { IfNone result (MeetsNone edges.now at (length edges.now)) }
 {
     let e = &edges[at];
-    let left = e.low.x.min(e.high.x);
-    let right = e.low.x.max(e.high.x);
-    for place in at + 1..edges.len() {
+    let left = left_of(e);
+    let right = right_of(e);
+    let mut place = at + 1;
+    while place < edges.len() {
         let f = &edges[place];
         if begins_above(f, e) {
             return None;
@@ -55,6 +63,7 @@ fn first_partner(edges: &[Edge], at: usize) -> Option<(usize, Spot)>
         if let Some(spot) = meet_across(e, f, left, right) {
             return Some((place, spot));
         }
+        place = next_across(edges, spans, place, left, right);
     }
     None
 }
@@ -88,9 +97,7 @@ fn meet_across(e: &Edge, f: &Edge, left: i32, right: i32) -> Option<Spot>
 fn is_across_range(f: &Edge, left: i32, right: i32) -> bool
     ensures { result ≡ is_across f.now left right }
 {
-    let least = f.low.x.min(f.high.x);
-    let most = f.low.x.max(f.high.x);
-    least <= right && left <= most
+    left_of(f) <= right && left <= right_of(f)
 }
 
 #[cfg(test)]
@@ -127,7 +134,7 @@ mod tests {
             let area = Area::of_rings(alloc, Text::of(alloc, "wood")?, &rings)?;
             let edges = odd(alloc, &area)?;
             assert_eq!(rt;
-                first_crossing(&edges).map(|c| c.spot),
+                first_crossing(alloc, &edges)?.map(|c| c.spot),
                 spot,
                 "at {points:?}"
             );

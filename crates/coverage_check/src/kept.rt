@@ -38,7 +38,6 @@ impl OddArea {
     {
         let odd = odd(alloc, area)?;
         let class = area.class().copy(alloc)?;
-        let _even = area.steps();
         Ok(OddArea { class, odd })
     }
 

@@ -1,6 +1,7 @@
 //! Whether a coverage is planar and disjoint, over all rational points.
 #![tactic(auto)]
 
+mod beside;
 mod border;
 mod bordering;
 mod checked;
@@ -13,6 +14,7 @@ mod kept;
 mod laws;
 mod overlap;
 mod shared;
+mod span;
 mod strip;
 mod usage;
 mod walk;

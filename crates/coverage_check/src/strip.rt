@@ -9,7 +9,7 @@ ghost use Rattle.coverage_check.specs.Active.{is_up_to, is_left_of, IsDoneBelow,
 
 use crate::border::Border;
 use agg_base::NoMemory;
-use plane_edge::{Edge, gap, spot_along};
+use plane_edge::{Edge, gap, spot_along, sum};
 use std::cmp::Ordering;
 
 /// The sum of two heights: twice the height of the mid-line.
@@ -19,7 +19,7 @@ pub fn twice_middle(low: i32, high: i32) -> i128
     ensures value { result ≡ low +ℤ high }
     ensures within { unsigned_abs result ≤ 2 ^ 31 }
 {
-    i128::from(low) + i128::from(high)
+    sum(low, high)
 }
 
 /// Twice the height of the mid-line above the edge's low end.

@@ -1,7 +1,7 @@
 ghost use Rattle.std.specs.Prelude.{◌≤◌, IsTrue};
 ghost use Rattle.plane_edge.specs.Rings.{step_count};
 
-use super::{Checked, CoverFault, check};
+use super::{Checked, CoverFault, check, odd_law};
 use agg_base::{NoMemory, Text};
 use crew_work::Alone;
 use plane_edge::{Area, Coverage, Edge, Frame, Point, Spot};
@@ -111,6 +111,69 @@ fn overlapping_areas_are_named(rt: HostRuntime) -> Result<(), Fail> {
 }
 
 #[test]
+fn a_crossing_at_the_end_of_a_row_is_named(rt: HostRuntime) -> Result<(), Fail> {
+    let cells: [&[[i64; 2]]; 4] = [
+        &[[0, 0], [1, 0], [1, 1], [0, 1]],
+        &[[1, 0], [2, 0], [2, 1], [1, 1]],
+        &[[2, 0], [3, 0], [3, 1], [2, 1]],
+        &[[3, 0], [4, 0], [4, 1], [3, 1]],
+    ];
+    let roof: &[[i64; 2]] = &[[3, 1], [5, 1], [4, 3]];
+    let [first, second, third, fourth] = cells;
+    assert_eq!(rt;
+        fault(&rt, rt.alloc(), &[first, second, third, fourth, roof])?,
+        Some(CoverFault::Crossing {
+            e: edge(&rt, [4, 0], [4, 1]),
+            f: edge(&rt, [3, 1], [5, 1]),
+            spot: Spot { x: 4, y: 1, m: 1 },
+        })
+    );
+    Ok(())
+}
+
+#[test]
+fn even_edges_take_part_in_nothing(rt: HostRuntime) -> Result<(), Fail> {
+    let spiked: &[[i64; 2]] = &[[0, 0], [4, 0], [4, 4], [2, 4], [2, 6], [2, 4], [0, 4]];
+    let above: &[[i64; 2]] = &[[0, 5], [4, 5], [4, 7], [0, 7]];
+    let Ok(map) = checked(&rt, rt.alloc(), &[spiked, above])? else {
+        return Err("a fault".into());
+    };
+    assert_eq!(rt; map.areas(), 2);
+    assert_eq!(rt; map.odd(0).len(), 5);
+    Ok(())
+}
+
+#[test]
+fn the_heights_of_all_edges_count(rt: HostRuntime) -> Result<(), Fail> {
+    let square: &[[i64; 2]] = &[[0, 0], [4, 0], [4, 4], [0, 4]];
+    let far: &[[i64; 2]] = &[[10, 1], [12, 1], [11, 2]];
+    assert_eq!(rt;
+        fault(&rt, rt.alloc(), &[square, square, far])?,
+        Some(CoverFault::Overlap {
+            a: 0,
+            b: 1,
+            spot: Spot { x: 0, y: 1, m: 2 },
+        })
+    );
+    Ok(())
+}
+
+#[test]
+fn the_two_least_of_three_areas_are_named(rt: HostRuntime) -> Result<(), Fail> {
+    let small: &[[i64; 2]] = &[[2, 2], [6, 2], [6, 6], [2, 6]];
+    let large: &[[i64; 2]] = &[[0, 0], [8, 0], [8, 8], [0, 8]];
+    assert_eq!(rt;
+        fault(&rt, rt.alloc(), &[small, small, large])?,
+        Some(CoverFault::Overlap {
+            a: 0,
+            b: 1,
+            spot: Spot { x: 2, y: 4, m: 1 },
+        })
+    );
+    Ok(())
+}
+
+#[test]
 fn an_area_without_an_odd_edge_is_passed_over(rt: HostRuntime) -> Result<(), Fail> {
     let flat: &[[i64; 2]] = &[[0, 0], [3, 0], [3, 0], [0, 0]];
     let square: &[[i64; 2]] = &[[0, 0], [1, 0], [1, 1], [0, 1], [0, 0]];
@@ -124,6 +187,7 @@ fn an_area_without_an_odd_edge_is_passed_over(rt: HostRuntime) -> Result<(), Fai
     assert_eq!(rt; map.class(0).as_str(), "1");
     assert!(rt; matches!(map.frame(), Frame::Plain));
     map.rules();
+    odd_law();
     Ok(())
 }
 

@@ -1,4 +1,4 @@
-//! How long the check of a coverage takes: it checks three made coverages and prints how many areas each has, and with any word behind the
+//! How long the check of a coverage takes: it checks four made coverages and prints how many areas each has, and with any word behind the
 //! program's name also the time of each check.
 #![tactic(auto)]
 
@@ -16,7 +16,7 @@ use std::time::Instant;
 use std::{env, io};
 
 // Appends a corner to a ring.
-fn corner(ring: &mut Vec<Point>, x: u16, y: u16) -> Result<(), NoMemory> {
+fn corner(ring: &mut Vec<Point>, x: u32, y: u32) -> Result<(), NoMemory> {
     if let Some(p) = Point::of(i64::from(x), i64::from(y)) {
         ring.push(p)?;
     }
@@ -24,7 +24,7 @@ fn corner(ring: &mut Vec<Point>, x: u16, y: u16) -> Result<(), NoMemory> {
 }
 
 // The ring of a unit cell.
-fn cell(alloc: Global, x: u16, y: u16) -> Result<Vec<Point>, NoMemory> {
+fn cell(alloc: Global, x: u32, y: u32) -> Result<Vec<Point>, NoMemory> {
     let mut ring = Vec::new(alloc);
     let right = x.saturating_add(1);
     let top = y.saturating_add(1);
@@ -36,7 +36,7 @@ fn cell(alloc: Global, x: u16, y: u16) -> Result<Vec<Point>, NoMemory> {
 }
 
 // Appends an area of one cell.
-fn push_cell(areas: &mut Vec<Area>, alloc: Global, x: u16, y: u16) -> Result<(), NoMemory> {
+fn push_cell(areas: &mut Vec<Area>, alloc: Global, x: u32, y: u32) -> Result<(), NoMemory> {
     let mut rings = Vec::new(alloc);
     rings.push(cell(alloc, x, y)?)?;
     areas.push(Area::of_rings(alloc, Text::of(alloc, "1")?, &rings)?)?;
@@ -44,10 +44,10 @@ fn push_cell(areas: &mut Vec<Area>, alloc: Global, x: u16, y: u16) -> Result<(),
 }
 
 // Each cell an area.
-fn cells(alloc: Global, side: u16) -> Result<Vec<Area>, NoMemory> {
+fn cells(alloc: Global, width: u32, height: u32) -> Result<Vec<Area>, NoMemory> {
     let mut areas = Vec::new(alloc);
-    for y in 0..side {
-        for x in 0..side {
+    for y in 0..height {
+        for x in 0..width {
             push_cell(&mut areas, alloc, x, y)?;
         }
     }
@@ -55,7 +55,7 @@ fn cells(alloc: Global, side: u16) -> Result<Vec<Area>, NoMemory> {
 }
 
 // All cells of one colour of a checkerboard, as one area.
-fn colour_of(alloc: Global, side: u16, colour: u16) -> Result<Area, NoMemory> {
+fn colour_of(alloc: Global, side: u32, colour: u32) -> Result<Area, NoMemory> {
     let mut rings = Vec::new(alloc);
     for y in 0..side {
         for x in 0..side {
@@ -68,7 +68,7 @@ fn colour_of(alloc: Global, side: u16, colour: u16) -> Result<Area, NoMemory> {
 }
 
 // A checkerboard of two areas.
-fn board(alloc: Global, side: u16) -> Result<Vec<Area>, NoMemory> {
+fn board(alloc: Global, side: u32) -> Result<Vec<Area>, NoMemory> {
     let mut areas = Vec::new(alloc);
     areas.push(colour_of(alloc, side, 0)?)?;
     areas.push(colour_of(alloc, side, 1)?)?;
@@ -122,19 +122,24 @@ fn is_timed(rt: &(impl Env + AllocGlobal)) -> io::Result<bool> {
 fn main(rt: HostRuntime) -> Result<(), Fail> {
     let alloc = rt.alloc();
     let timed = is_timed(&rt)?;
-    for (name, side) in [("cells", 100), ("cells", 256), ("board", 400)] {
-        let areas = if side == 400 {
-            board(alloc, side)?
+    for (name, width, height) in [
+        ("cells", 100, 100),
+        ("cells", 256, 256),
+        ("cells", 65_536, 1),
+        ("board", 400, 400),
+    ] {
+        let areas = if name == "board" {
+            board(alloc, width)?
         } else {
-            cells(alloc, side)?
+            cells(alloc, width, height)?
         };
         let start = Instant::now(&rt)?;
         let count = answer(alloc, areas);
         let took = start.elapsed(&rt)?.as_millis();
         if timed {
-            println!(rt; "{side} by {side} {name}: {count} areas, {took} ms")?;
+            println!(rt; "{width} by {height} {name}: {count} areas, {took} ms")?;
         } else {
-            println!(rt; "{side} by {side} {name}: {count} areas")?;
+            println!(rt; "{width} by {height} {name}: {count} areas")?;
         }
     }
     Ok(())

@@ -1,12 +1,10 @@
 use Rattle.std.proofs.Common.{◌∙◌}
-use Rattle.plane_edge.proofs.OddLemmas.{odd_even_ends}
 use Rattle.coverage_check.proofs.KeptLemmas.{odd_list_only, outlines_same}
 use Rattle.coverage_check.proofs.kept.OddArea.of.Goals as goal
 
 pub invariant_of-result : goal.invariant_of-result
 invariant_of-result c =
-    let a = c.in_ok-odd.ensures.odd in
-    (a.rising, odd_even_ends c.args.area.now.steps c.in_ok-odd.odd.items a c.steps-even.ensures.even)
+    (c.in_ok-odd.ensures.odd.rising, c.in_ok-odd.ensures.even)
 
 pub returns : goal.returns
 returns c = outlines_same _ _ _ _ (c.in_ok-class.ensures ∙ c.class.ensures) (odd_list_only c.args.area.now.steps c.in_ok-odd.odd.items c.in_ok-odd.ensures.odd)
