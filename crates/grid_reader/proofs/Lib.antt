@@ -22,3 +22,4 @@ pub mod DecideText
 pub mod DecideHeader
 pub mod DecideBody
 pub mod FrameLemmas
+pub mod OutcomeLemmas

@@ -14,3 +14,4 @@ pub mod Whole
 pub mod Body
 pub mod GridTexts
 pub mod Frames
+pub mod Outcomes

@@ -1,7 +1,11 @@
 // The reader of grids.
-ghost use Rattle.std.specs.Prelude.{◌≡◌, ◌≤◌, ◌+◌, length, IfOk, IfErr, IfSome, IfNone};
+ghost use Rattle.std.specs.Prelude.{◌≡◌, ◌≤◌, ◌+◌, List, length, IfOk, IfErr, IfSome, IfNone};
 ghost use Rattle.agg_base.specs.Lines.{rows_from};
-ghost use Rattle.grid_reader.specs.GridTexts.{SpellsGrid, IsGridText, IsFaultOf};
+ghost use Rattle.plane_edge.specs.Rings.{Outline};
+ghost use Rattle.plane_edge.specs.declared.frame.Frame.{Frame};
+ghost use Rattle.grid_reader.specs.GridTexts.{SpellsGrid, IsGridText, IsFaultOf, IsFirstFault};
+ghost use Rattle.grid_reader.specs.Outcomes.{Reads, FailsBy};
+ghost use Rattle.grid_reader.specs.declared.fault.GridFault.{GridFault};
 
 use crate::GridFault;
 use crate::body::read_body;
@@ -17,9 +21,9 @@ use std::alloc::Global;
 ///
 /// The header is the lines at the start whose first word begins with an ASCII letter; lines of blanks among them are passed over. Each has
 /// two words, parted by spaces and tabs: a name, in upper or lower case, and its value. `ncols` and `nrows` have one or more digits, for 1 to
-/// 524,288. `xllcorner`, `yllcorner` and `cellsize` have a number of JSON of at most 100 bytes, `cellsize` without a minus. `nodata_value`,
-/// which may be left out for -9999, has a whole number as a cell has. Each name comes once, in any order. The names `xllcenter` and
-/// `yllcenter`, which place a grid by the centre of a cell, are refused, and so is every other one, as `dx` and `dy`.
+/// 524,288. `xllcorner`, `yllcorner` and `cellsize` have a number of JSON of at most 100 bytes, `cellsize` one that does not begin with a
+/// minus. `nodata_value`, which may be left out for -9999, has a whole number as a cell has. Each name comes once, in any order. The names
+/// `xllcenter` and `yllcenter`, which place a grid by the centre of a cell, are refused, and so is every other one, as `dx` and `dy`.
 ///
 /// The words behind the header, parted by spaces, tabs, line feeds and carriage returns, are the cells, row by row from the top and each row from
 /// the left: an optional minus, digits, and perhaps a point with zeros behind it, at most 2,147,483,647 from 0. There are columns times rows of
@@ -38,6 +42,8 @@ pub fn read(alloc: Global, bytes: &[u8]) -> Result<Coverage, GridFault>
     ensures found { IfOk result (λ c. SpellsGrid bytes.now c.areas.items c.frame) }
     ensures passed { IfOk result (λ c. c.passed ≡ 0) }
     ensures fault { IfErr result (λ f. IsFaultOf bytes.now f) }
+    ensures spelled { (areas : List Outline) (frame : Frame) → SpellsGrid bytes.now areas frame → Reads areas frame result }
+    ensures faulty { (f : GridFault) → IsFirstFault bytes.now f → FailsBy f result }
 {
     let (grid, frame) = read_grid(alloc, bytes)?;
     coverage_of(alloc, &grid, frame)

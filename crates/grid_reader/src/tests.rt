@@ -1,7 +1,7 @@
 // Worked texts of grids.
 ghost use Rattle.std.specs.Prelude.{◌≤◌, length};
 
-use crate::{GridFault, grid_or_fault, grid_without_fault, one_fault, one_grid, read};
+use crate::{GridFault, frame_law, grid_or_fault, grid_without_fault, one_fault, one_grid, read};
 use plane_edge::{Area, Coverage, Frame, Limit};
 use std::alloc::Global;
 use std::test::Fail;
@@ -32,6 +32,20 @@ fn begins(area: &Area, x: i32, y: i32) -> bool {
         .any(|step| step.low().x == x && step.low().y == y)
 }
 
+// A text with names in upper and lower case.
+const MIXED: &[u8] =
+    b"NCOLS 002\r\n\r\n \t\r\nNRows\t2 \r\n XLLCORNER -0.5e2\r\nyllcorner 7\r\nCELLSIZE 1E-5\r\nNODATA_value -0\r\n0\r\n-9999\r\n5.0 \t005";
+
+// Whether the frame scales by that size and moves by that corner.
+fn is_frame(frame: &Frame, size: &str, left: &str, low: &str) -> bool {
+    match frame {
+        Frame::Plain => false,
+        Frame::Scaled { sx, sy, tx, ty } => {
+            sx.as_str() == size && sy.as_str() == size && tx.as_str() == left && ty.as_str() == low
+        }
+    }
+}
+
 #[test]
 fn areas_are_patches(rt: HostRuntime) -> Result<(), Fail> {
     for (text, classes, steps) in [
@@ -51,10 +65,11 @@ fn areas_are_patches(rt: HostRuntime) -> Result<(), Fail> {
             [].as_slice(),
         ),
         (
-            b"NCOLS 002\r\n\r\n \t\r\nNRows\t2 \r\n XLLCORNER -0.5e2\r\nyllcorner 7\r\nCELLSIZE 1E-5\r\nNODATA_value -0\r\n0\r\n-9999\r\n5.0 \t005".as_slice(),
-            ["-9999", "5"].as_slice(),
-            [4, 8].as_slice(),
+            b"ncols 3\nnrows 1\nxllcorner 0\nyllcorner 0\ncellsize 1\n1 -9999 1\n".as_slice(),
+            ["1", "1"].as_slice(),
+            [4, 4].as_slice(),
         ),
+        (MIXED, ["-9999", "5"].as_slice(), [4, 8].as_slice()),
     ] {
         let map = coverage(rt.alloc(), text)?;
         crosses(&map);
@@ -78,16 +93,39 @@ fn rows_go_down_and_corners_join_nothing(rt: HostRuntime) -> Result<(), Fail> {
         assert!(rt; begins(first, 0, 1) && !begins(first, 1, 0));
         assert!(rt; begins(second, 1, 0) && !begins(second, 0, 1));
     }
-    match &map.frame {
-        Frame::Plain => Err(Fail::new("plain")),
-        Frame::Scaled { sx, sy, tx, ty } => {
-            assert_eq!(rt; sx.as_str(), "0.25");
-            assert_eq!(rt; sy.as_str(), "0.25");
-            assert_eq!(rt; tx.as_str(), "10");
-            assert_eq!(rt; ty.as_str(), "-20.5");
-            Ok(())
-        }
+    assert!(rt; is_frame(&map.frame, "0.25", "10", "-20.5"));
+    Ok(())
+}
+
+#[test]
+fn frames_keep_their_characters(rt: HostRuntime) -> Result<(), Fail> {
+    let map = coverage(rt.alloc(), MIXED)?;
+    assert!(rt; is_frame(&map.frame, "1E-5", "-0.5e2", "7"));
+    frame_law();
+    Ok(())
+}
+
+// A text of one cell whose left corner has so many digits.
+fn cornered(alloc: Global, digits: u32) -> Result<Vec<u8>, Fail> {
+    let mut text = Vec::from_slice(
+        alloc,
+        b"ncols 1\nnrows 1\nyllcorner 0\ncellsize 1\nxllcorner ",
+    )?;
+    for _ in 0..digits {
+        text.push(b'1')?;
     }
+    text.extend_from_slice(b"\n5\n")?;
+    Ok(text)
+}
+
+#[test]
+fn corners_have_a_limit(rt: HostRuntime) -> Result<(), Fail> {
+    let alloc = rt.alloc();
+    let map = coverage(alloc, &cornered(alloc, 100)?)?;
+    assert_eq!(rt; map.areas.len(), 1);
+    let long = Some(GridFault::Header { line: 5 });
+    assert!(rt; fault(alloc, &cornered(alloc, 101)?) == long);
+    Ok(())
 }
 
 #[test]
