@@ -6,3 +6,4 @@ pub mod ListedLemmas
 pub mod PlanLemmas
 pub mod OneLists
 pub mod OneProblem
+mod Examples

@@ -101,7 +101,7 @@ light_not_heavy : (os : List Outline) (t : Classes) (v : ℕ) (sum : ℤ) → Is
 light_not_heavy os t v sum h = not_light (weight_in os t v) (subst (λ (z : ℤ). z <ℤ pos 1) h.value h.light)
 
 pub light_law : LightLaw
-light_law os t v sum h k = light_not_heavy os t v sum h.first (k v h.first.within)
+light_law os t v sum p h k = light_not_heavy os t v sum h.first (k.heavy v h.first.within)
 
 one_least : (u v : ℕ) → ¬ (u < v) → ¬ (v < u) → u ≡ v
 one_least u v h k =

@@ -18,7 +18,7 @@ use Rattle.agg_model.specs.Plan.{Plan, IsPlan, areas, weight_of, length_of}
 use Rattle.agg_model.specs.Rules.{link_in}
 use Rattle.area_graph.specs.Lengths.{common_length, edge_length, is_among}
 use Rattle.area_graph.specs.Weights.{weight_of_edges, sum_over, signed_term}
-use Rattle.area_graph.specs.Problems.{IsProblemOf, AreHeavy}
+use Rattle.area_graph.specs.Problems.{IsProblemOf}
 use Rattle.area_graph.proofs.LengthLemmas.{edge_length_small}
 use Rattle.area_graph.proofs.WeightLemmas.{sum_over-size, term_size, few_of}
 use Rattle.area_graph.proofs.BorderLemmas.{steps_more}
@@ -82,8 +82,8 @@ small_enough w l s n h k p q =
 whole_take : (os : List Outline) (n : ℕ) → n ≡ length os → step_count (take n os) ≡ step_count os
 whole_take os n h = ap step_count (ap (λ (m : ℕ). take m os) h ∙ take-length os)
 
-pub plan_of : (os : List Outline) (t : Classes) (p : Plan) → IsChecked os → IsClasses t → IsProblemOf os t p → AreHeavy os t (length os) → length p.links ≤ 1048576 → IsPlan p
-plan_of os t p checked table is heavy few =
+pub plan_of : (os : List Outline) (t : Classes) (p : Plan) → IsChecked os → IsClasses t → IsProblemOf os t p → length p.links ≤ 1048576 → IsPlan p
+plan_of os t p checked table is few =
     let n : areas p ≡ length os = is.own.one_each in
     let k = is.classes in
     let w : length p.weight ≡ areas p = is.weight.one_each ∙ sym n in
@@ -96,7 +96,7 @@ plan_of os t p checked table is heavy few =
       weights = w;
       thresholds = ap length is.threshold ∙ table.thresholds ∙ sym k;
       own_below = λ v h. let o = (is.own.named v (omega (arith, n, h))).0 in omega (arith, o, k);
-      heavy = λ v h. subst (λ (z : ℤ). pos 1 ≤ℤ z) (sym (is.weight.value v (omega (arith, n, h)))) (heavy v (omega (arith, n, h)));
+      heavy = λ v h. subst (λ (z : ℤ). pos 1 ≤ℤ z) (sym (is.weight.value v (omega (arith, n, h)))) (is.heavy v (omega (arith, n, h)));
       link_order = λ l h. (is.links.touch l h).rising;
       links_rise = λ l h. is.links.rising l (suc l) (record { a = 0; b = 0; length = pos 0 }) (omega arith) h;
       link_end = λ l h. let e = is.links.touch l h in let b = there (odds_of os) (link_in p.links l).b e.edge e.in_b in omega (arith, b, edges, n);

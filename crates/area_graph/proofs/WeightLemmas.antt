@@ -14,11 +14,12 @@ use Rattle.whole_ring.proofs.Ring.{ring, var, con, ◌⊕◌, ◌⊖◌, ◌⊗�
 use Rattle.whole_ring.proofs.Signs.{lin, within}
 use Rattle.plane_edge.specs.declared.edge.Edge.{Edge}
 use Rattle.plane_edge.specs.Edges.{is_same_edge}
+use Rattle.plane_edge.specs.Middle.{middle_of}
 use Rattle.plane_edge.specs.Plane.{crosses, side_of, rise, IsInside}
 use Rattle.plane_edge.proofs.OrderLemmas.{same_edges_equal}
 use Rattle.plane_edge.proofs.EvenLists.{count-cons}
 use Rattle.edge_rows.specs.Beside.{AreCrossedAlike}
-use Rattle.area_graph.specs.Weights.{sum_over, middle_of, others_crossed, swept, signed_term, weight_of_edges}
+use Rattle.area_graph.specs.Weights.{sum_over, others_crossed, swept, signed_term, weight_of_edges}
 
 pub sum_over-push : (f : Edge → ℤ) (es : List Edge) (e : Edge) → sum_over f (es ++ e ∷ []) ≡ sum_over f es +ℤ f e
 sum_over-push f [] e = omega (arith, lin)

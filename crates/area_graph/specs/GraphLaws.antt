@@ -1,9 +1,9 @@
 -- What holds of every problem of a map and a table, and of the areas that are named in its place.
-use Rattle.std.specs.Prelude.{◌≡◌, ℕ, List, length, ℤ}
+use Rattle.std.specs.Prelude.{◌≡◌, ℕ, List, ℤ}
 use Rattle.plane_edge.specs.Rings.{Outline}
 use Rattle.class_table.specs.Classes.{Classes, IsClasses}
 use Rattle.agg_model.specs.Plan.{Plan}
-use Rattle.area_graph.specs.Problems.{IsProblemOf, IsLeastUnknown, IsLeastLight, AreHeavy}
+use Rattle.area_graph.specs.Problems.{IsProblemOf, IsLeastUnknown, IsLeastLight}
 
 -- a map and a table have one problem at most
 abbrev pub OneProblemLaw : Type 0
@@ -14,10 +14,10 @@ OneProblemLaw =
 abbrev pub UnknownLaw : Type 0
 UnknownLaw = (areas : List Outline) (t : Classes) (v : ℕ) (p : Plan) → IsLeastUnknown areas t v → ¬ IsProblemOf areas t p
 
--- where an area weighs less than 1, not each area weighs 1 or more
+-- a map with an area that weighs less than 1 has no problem
 abbrev pub LightLaw : Type 0
 LightLaw =
-    (areas : List Outline) (t : Classes) (v : ℕ) (sum : ℤ) → IsLeastLight areas t v sum → ¬ AreHeavy areas t (length areas)
+    (areas : List Outline) (t : Classes) (v : ℕ) (sum : ℤ) (p : Plan) → IsLeastLight areas t v sum → ¬ IsProblemOf areas t p
 
 -- there is one least area of no class at most
 abbrev pub OneUnknownLaw : Type 0

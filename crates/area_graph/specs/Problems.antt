@@ -34,11 +34,16 @@ pub record AreWeights (areas : List Outline) (t : Classes) (weight : List ℤ) :
   pub one_each : length weight ≡ length areas
   pub value : (v : ℕ) → v < length areas → get_or weight v (pos 0) ≡ weight_in areas t v
 
+-- each of the first n areas weighs 1 or more
+abbrev pub AreHeavy : List Outline → Classes → ℕ → Type 0
+AreHeavy areas t n = (u : ℕ) → u < n → pos 1 ≤ℤ weight_in areas t u
+
 -- the problem of the areas and the table
 pub record IsProblemOf (areas : List Outline) (t : Classes) (p : Plan) : Type 0 where
   pub classes : p.classes ≡ length t.names
   pub own : AreOwn areas t p.own
   pub weight : AreWeights areas t p.weight
+  pub heavy : AreHeavy areas t (length areas)
   pub links : AreLinksOf t.wide t.high (odds_of areas) p.links
   pub distance : p.distance ≡ t.distance
   pub threshold : p.threshold ≡ t.threshold
@@ -49,10 +54,6 @@ pub record IsLeastUnknown (areas : List Outline) (t : Classes) (v : ℕ) : Type 
   pub within : v < length areas
   pub unknown : IsUnknown t (class_in areas v)
   pub least : (u : ℕ) → u < v → (k : ℕ) × IsOwn t (class_in areas u) k
-
--- each of the first n areas weighs 1 or more
-abbrev pub AreHeavy : List Outline → Classes → ℕ → Type 0
-AreHeavy areas t n = (u : ℕ) → u < n → pos 1 ≤ℤ weight_in areas t u
 
 -- v is the least area that weighs less than 1
 pub record IsFirstLight (areas : List Outline) (t : Classes) (v : ℕ) (sum : ℤ) : Type 0 where

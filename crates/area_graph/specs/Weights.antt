@@ -1,13 +1,9 @@
 -- What an area weighs.
 use Rattle.std.specs.Prelude.{ℕ, ◌*◌, ◌%◌, ◌&&◌, not, eqb, if◌then◌else◌, count_by, List, [], ◌∷◌, ℤ, pos, ◌+ℤ◌, ◌-ℤ◌, ◌*ℤ◌}
 use Rattle.plane_edge.specs.declared.edge.Edge.{Edge}
-use Rattle.plane_edge.specs.declared.spot.Spot.{Spot}
 use Rattle.plane_edge.specs.Edges.{is_same_edge}
+use Rattle.plane_edge.specs.Middle.{middle_of}
 use Rattle.plane_edge.specs.Plane.{crosses, rise}
-
--- the middle of an edge
-abbrev pub middle_of : Edge → Spot
-middle_of e = record { x = e.low.x +ℤ e.high.x; y = e.low.y +ℤ e.high.y; m = pos 2 }
 
 -- how many of the other edges the ray from the edge's middle to the right crosses
 abbrev pub others_crossed : List Edge → Edge → ℕ

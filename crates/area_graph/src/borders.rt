@@ -58,11 +58,11 @@ fn add_edge(
     area: u32,
     unit: Unit,
 ) -> Result<(), NoMemory>
-    requires wide { unit.0 ≤ 100 }
-    requires high { unit.1 ≤ 100 }
+    requires wide { unit.wide ≤ 100 }
+    requires high { unit.high ≤ 100 }
     requires small { (q : Two) (s : ℤ) → q.b ≡ area → get pair_cmp lengths.old q ≡ Some s → unsigned_abs s ≤ 2 ^ 68 }
     ensures owners { OnOk result ((e : Line) → get edge_cmp waiting.new e ≡ cond (is_same_edge edge.now e) (toggled_by area (get edge_cmp waiting.old edge.now)) (get edge_cmp waiting.old e)) }
-    ensures sums { OnOk result ((q : Two) → get pair_cmp lengths.new q ≡ cond (eqb q.b area && is_this q.a (get edge_cmp waiting.old edge.now)) (longer (get pair_cmp lengths.old q) (pos (edge_length unit.0 unit.1 edge.now))) (get pair_cmp lengths.old q)) }
+    ensures sums { OnOk result ((q : Two) → get pair_cmp lengths.new q ≡ cond (eqb q.b area && is_this q.a (get edge_cmp waiting.old edge.now)) (longer (get pair_cmp lengths.old q) (pos (edge_length unit.wide unit.high edge.now))) (get pair_cmp lengths.old q)) }
     ensures count { OnOk result (btree_map_len waiting.new + 2 * btree_map_len lengths.new ≤ btree_map_len waiting.old + 2 * btree_map_len lengths.old + 1) }
 {
     let length = length_of(unit, edge);
@@ -83,13 +83,13 @@ fn add_area(
     area: u32,
     unit: Unit,
 ) -> Result<(), NoMemory>
-    requires wide { unit.0 ≤ 100 }
-    requires high { unit.1 ≤ 100 }
+    requires wide { unit.wide ≤ 100 }
+    requires high { unit.high ≤ 100 }
     requires rising { IsRisingEdges odd.now }
     requires few { length odd.now ≤ 2097152 }
     requires fresh { (q : Two) → q.b ≡ area → get pair_cmp lengths.old q ≡ None }
     ensures owners { OnOk result ((e : Line) → get edge_cmp waiting.new e ≡ cond (is_among odd.now e) (toggled_by area (get edge_cmp waiting.old e)) (get edge_cmp waiting.old e)) }
-    ensures sums { OnOk result ((q : Two) → get pair_cmp lengths.new q ≡ cond (eqb q.b area) (border_sum unit.0 unit.1 (get edge_cmp waiting.old) odd.now q.a) (get pair_cmp lengths.old q)) }
+    ensures sums { OnOk result ((q : Two) → get pair_cmp lengths.new q ≡ cond (eqb q.b area) (border_sum unit.wide unit.high (get edge_cmp waiting.old) odd.now q.a) (get pair_cmp lengths.old q)) }
     ensures count { OnOk result (btree_map_len waiting.new + 2 * btree_map_len lengths.new ≤ btree_map_len waiting.old + 2 * btree_map_len lengths.old + length odd.now) }
 {
     for edge in odd {
@@ -100,9 +100,9 @@ fn add_area(
 
 /// The length of the common border of each two areas that have one.
 fn lengths_of(alloc: Global, checked: &Checked, unit: Unit) -> Result<Lengths, NoMemory>
-    requires wide { unit.0 ≤ 100 }
-    requires high { unit.1 ≤ 100 }
-    ensures sums { IfOk result (λ lengths. (q : Two) → get pair_cmp lengths q ≡ border_in unit.0 unit.1 (odds_of checked.now.areas) (length checked.now.areas) q) }
+    requires wide { unit.wide ≤ 100 }
+    requires high { unit.high ≤ 100 }
+    ensures sums { IfOk result (λ lengths. (q : Two) → get pair_cmp lengths q ≡ border_in unit.wide unit.high (odds_of checked.now.areas) (length checked.now.areas) q) }
     ensures count { IfOk result (λ lengths. btree_map_len lengths ≤ 1048576) }
 {
     checked.rules();
@@ -137,7 +137,7 @@ pub fn links(alloc: Global, checked: &Checked, table: &Table) -> Result<Vec<Link
 {
     checked.rules();
     table.rules();
-    let lengths = lengths_of(alloc, checked, table.unit())?;
+    let lengths = lengths_of(alloc, checked, Unit::of(table))?;
     let links = listed(alloc, &lengths)?;
     Ok(links)
 }

@@ -1,6 +1,6 @@
 //! The problem of a checked map and a class table.
 ghost use Rattle.std.specs.Prelude.{◌≡◌, ◌≤◌, ℕ, ℤ, length, IfOk};
-ghost use Rattle.area_graph.specs.Problems.{IsProblemOf, IsLeastUnknown, IsLeastLight, AreHeavy};
+ghost use Rattle.area_graph.specs.Problems.{IsProblemOf, IsLeastUnknown, IsLeastLight};
 
 use crate::borders::links;
 use crate::fault::GraphFault;
@@ -42,7 +42,6 @@ fn parts_of(alloc: Global, checked: &Checked, table: &Table) -> Result<ProblemPa
     ensures found { IfOk result (λ p. IsProblemOf checked.now.areas table.now p) }
     ensures unknown { (v : ℕ) → result ≡ Err (GraphFault.UnknownClass v) → IsLeastUnknown checked.now.areas table.now v }
     ensures light { (v : ℕ) (s : ℤ) → result ≡ Err (GraphFault.NoWeight v s) → IsLeastLight checked.now.areas table.now v s }
-    ensures heavy { IfOk result (λ p. AreHeavy checked.now.areas table.now (length checked.now.areas)) }
     ensures few { IfOk result (λ p. length p.links ≤ 1048576) }
 {
     table.rules();
@@ -73,7 +72,6 @@ fn parts_of(alloc: Global, checked: &Checked, table: &Table) -> Result<ProblemPa
 /// and an area weighs less than 1; each names the least such area.
 pub fn problem_of(alloc: Global, checked: &Checked, table: &Table) -> Result<Problem, GraphFault>
     ensures found { IfOk result (λ p. IsProblemOf checked.now.areas table.now p) }
-    ensures heavy { IfOk result (λ p. AreHeavy checked.now.areas table.now (length checked.now.areas)) }
     ensures unknown { (v : ℕ) → result ≡ Err (GraphFault.UnknownClass v) → IsLeastUnknown checked.now.areas table.now v }
     ensures light { (v : ℕ) (s : ℤ) → result ≡ Err (GraphFault.NoWeight v s) → IsLeastLight checked.now.areas table.now v s }
 {

@@ -11,7 +11,7 @@ pub fn unknown_law()
     ensures { UnknownLaw }
 {}
 
-/// Where an area weighs less than 1, not each area weighs 1 or more.
+/// A map with an area that weighs less than 1 has no problem.
 pub fn light_law()
     ensures { LightLaw }
 {}
@@ -26,7 +26,7 @@ pub fn one_light_law()
     ensures { OneLightLaw }
 {}
 
-/// Where an area has no class, not all classes are known.
-pub fn unknown_or_light_law()
+/// Where an area has no class, no area is named for its weight.
+pub fn unknown_not_light_law()
     ensures { UnknownNotLightLaw }
 {}

@@ -13,7 +13,7 @@ mod weights;
 pub use fault::GraphFault;
 pub use graph::problem_of;
 pub use laws::{
-    light_law, one_light_law, one_problem_law, one_unknown_law, unknown_law, unknown_or_light_law,
+    light_law, one_light_law, one_problem_law, one_unknown_law, unknown_law, unknown_not_light_law,
 };
 
 #[cfg(test)]

@@ -198,6 +198,32 @@ fn the_least_unknown_class_is_named(rt: HostRuntime) -> Result<(), Fail> {
     Ok(())
 }
 
+#[test]
+fn an_edge_that_occurs_twice_makes_no_link(rt: HostRuntime) -> Result<(), Fail> {
+    let alloc = rt.alloc();
+    let spiked: Ring<'_> = &[[0, 0], [2, 0], [2, 2], [2, 3], [2, 2], [0, 2]];
+    let mut areas = Vec::new(alloc);
+    areas.push(area(&rt, alloc, "wood", &[spiked])?)?;
+    areas.push(area(&rt, alloc, "lake", &[&[[2, 2], [3, 2], [3, 3], [2, 3]]])?)?;
+    let problem = problem(&rt, alloc, areas, PLAIN)?;
+    assert_eq!(rt; problem.areas(), 2);
+    assert_eq!(rt; weight(&rt, &problem, 0), 8);
+    assert_eq!(rt; problem.links().len(), 0);
+    Ok(())
+}
+
+#[test]
+fn areas_without_an_odd_edge_are_passed_over(rt: HostRuntime) -> Result<(), Fail> {
+    let alloc = rt.alloc();
+    let mut areas = Vec::new(alloc);
+    areas.push(area(&rt, alloc, "fen", &[&[[0, 0], [3, 0]]])?)?;
+    areas.push(area(&rt, alloc, "wood", &[&[[0, 0], [1, 0], [1, 1], [0, 1]]])?)?;
+    areas.push(area(&rt, alloc, "moor", &[&[[1, 0], [2, 0], [2, 1], [1, 1]]])?)?;
+    let fault = answer(&rt, alloc, areas, PLAIN)?.err();
+    assert_eq!(rt; fault, Some(GraphFault::UnknownClass { area: 1 }));
+    Ok(())
+}
+
 /// Takes what another thread may hold.
 fn is_shared<T: Send + Sync>(value: &T) {
     let _ = value;

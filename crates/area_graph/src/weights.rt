@@ -1,8 +1,6 @@
 //! What areas weigh.
-ghost use Rattle.std.specs.Prelude.{◌≡◌, ◌≢◌, ◌<◌, ◌≤◌, ◌*◌, ◌^◌, ℕ, ℤ, pos, if◌then◌else◌, ◌+ℤ◌, ◌-ℤ◌, ◌*ℤ◌, ◌≤ℤ◌, ◌<ℤ◌, unsigned_abs, length, IfOk};
-ghost use Rattle.plane_edge.specs.Coordinate.{IsCoordinate};
-ghost use Rattle.plane_edge.specs.Plane.{IsBounded};
-ghost use Rattle.area_graph.specs.Weights.{signed_term, sum_over, weight_of_edges, swept, middle_of};
+ghost use Rattle.std.specs.Prelude.{◌≡◌, ◌≢◌, ◌<◌, ◌≤◌, ◌*◌, ◌^◌, ℕ, ℤ, pos, if◌then◌else◌, ◌-ℤ◌, ◌*ℤ◌, ◌≤ℤ◌, ◌<ℤ◌, unsigned_abs, length, IfOk};
+ghost use Rattle.area_graph.specs.Weights.{signed_term, sum_over, weight_of_edges, swept};
 ghost use Rattle.area_graph.specs.Problems.{AreWeights, IsFirstLight, AreHeavy};
 
 use crate::fault::GraphFault;
@@ -11,18 +9,8 @@ use agg_base::NoMemory;
 use class_table::Table;
 use coverage_check::Checked;
 use edge_rows::EdgeRows;
-use plane_edge::{Edge, Spot, gap};
+use plane_edge::{Edge, gap, sum};
 use std::alloc::Global;
-
-/// The sum of two coordinates.
-fn sum_of(a: i32, b: i32) -> i128
-    requires a_in_range { IsCoordinate a }
-    requires b_in_range { IsCoordinate b }
-    ensures value { result ≡ a +ℤ b }
-    ensures within { unsigned_abs result ≤ 2 ^ 31 }
-{
-    i128::from(a) + i128::from(b)
-}
 
 /// The product of two numbers that are not large.
 fn product(a: i128, b: i128) -> i128
@@ -34,24 +22,12 @@ fn product(a: i128, b: i128) -> i128
     a * b
 }
 
-/// The middle of an edge.
-fn middle_spot(edge: &Edge) -> Spot
-    ensures value { result ≡ middle_of edge.now }
-    ensures bounded { IsBounded result }
-{
-    Spot {
-        x: sum_of(edge.low.x, edge.high.x),
-        y: sum_of(edge.low.y, edge.high.y),
-        m: 2,
-    }
-}
-
 /// Twice what lies between the edge and the axis, a level edge none.
 fn swept_by(edge: &Edge) -> i128
     ensures value { result ≡ swept edge.now }
     ensures within { unsigned_abs result ≤ 2 ^ 62 }
 {
-    let across = sum_of(edge.low.x, edge.high.x);
+    let across = sum(edge.low.x, edge.high.x);
     let up = gap(edge.high.y, edge.low.y);
     product(across, up)
 }
@@ -62,7 +38,7 @@ fn term_of(rows: &EdgeRows, edge: &Edge) -> i128
     ensures within { unsigned_abs result ≤ 2 ^ 62 }
 {
     let swept = swept_by(edge);
-    let is_inside = rows.inside(&middle_spot(edge));
+    let is_inside = rows.inside(&edge.middle());
     turned(is_inside, swept)
 }
 
@@ -99,20 +75,20 @@ fn scaled_by(factor: u32, sum: i128) -> i128
 
 /// The weight of an area whose odd edges are laid out as `rows`.
 fn weight_by(unit: Unit, rows: &EdgeRows, odd: &[Edge]) -> i128
-    requires wide { unit.0 ≤ 100 }
-    requires high { unit.1 ≤ 100 }
+    requires wide { unit.wide ≤ 100 }
+    requires high { unit.high ≤ 100 }
     requires few { length odd.now ≤ 2097152 }
-    ensures { result ≡ pos (unit.0 * unit.1) *ℤ sum_over (signed_term rows.now) odd.now }
+    ensures { result ≡ pos (unit.wide * unit.high) *ℤ sum_over (signed_term rows.now) odd.now }
 {
-    scaled_by(unit.0 * unit.1, terms(rows, odd))
+    scaled_by(unit.wide * unit.high, terms(rows, odd))
 }
 
 /// The weight of an area with these odd edges, in twice the square unit.
 fn weight_of(alloc: Global, unit: Unit, odd: &[Edge]) -> Result<i128, NoMemory>
-    requires wide { unit.0 ≤ 100 }
-    requires high { unit.1 ≤ 100 }
+    requires wide { unit.wide ≤ 100 }
+    requires high { unit.high ≤ 100 }
     requires few { length odd.now ≤ 2097152 }
-    ensures { IfOk result (λ weight. weight ≡ weight_of_edges unit.0 unit.1 odd.now) }
+    ensures { IfOk result (λ weight. weight ≡ weight_of_edges unit.wide unit.high odd.now) }
 {
     let rows = EdgeRows::of(alloc, odd)?;
     Ok(weight_by(unit, &rows, odd))
@@ -127,9 +103,10 @@ pub fn weights(alloc: Global, checked: &Checked, table: &Table) -> Result<Vec<i1
 {
     checked.rules();
     table.rules();
+    let unit = Unit::of(table);
     let mut weight = Vec::new(alloc);
     for area in 0..checked.areas() as u32 {
-        let sum = weight_of(alloc, table.unit(), checked.odd(area))?;
+        let sum = weight_of(alloc, unit, checked.odd(area))?;
         if sum < 1 {
             return Err(GraphFault::NoWeight { area, sum });
         }

@@ -122,4 +122,4 @@ loaded_not_refused map text line c t p l = λ refused. clash line refused
         let map_is : d ≡ c = one_map map d c is_map l.is_map in
         let table_is : u ≡ t = one_table_text text u t is_table l.is_table in
         let here : IsLeastLight c.areas t v sum = subst (λ x. IsLeastLight c.areas x v sum) table_is (subst (λ x. IsLeastLight x.areas u v sum) map_is least) in
-        light_law c.areas t v sum here l.heavy
+        light_law c.areas t v sum p here l.is_problem

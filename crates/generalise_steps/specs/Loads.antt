@@ -8,7 +8,7 @@ use Rattle.coverage_check.specs.Checked.{CheckedMap}
 use Rattle.coverage_check.specs.Cover.{IsPlanarCover, IsDisjointCover}
 use Rattle.coverage_check.specs.Kept.{kept_of, odds_of}
 use Rattle.agg_model.specs.Plan.{Plan}
-use Rattle.area_graph.specs.Problems.{IsProblemOf, AreHeavy}
+use Rattle.area_graph.specs.Problems.{IsProblemOf}
 
 -- the text spells areas that are planar and disjoint, and this is the checked map of them: those with an odd edge, and how many others there are
 pub record IsMap (map : List ℕ) (c : CheckedMap) : Type 0 where
@@ -24,4 +24,3 @@ pub record Loads (map table : List ℕ) (c : CheckedMap) (t : Classes) (p : Plan
   pub is_map : IsMap map c
   pub is_table : IsTableText table t
   pub is_problem : IsProblemOf c.areas t p
-  pub heavy : AreHeavy c.areas t (length c.areas)

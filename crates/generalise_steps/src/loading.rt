@@ -5,7 +5,7 @@ ghost use Rattle.plane_edge.specs.declared.frame.Frame.{Frame};
 ghost use Rattle.grid_reader.specs.GridTexts.{SpellsGrid};
 ghost use Rattle.class_table.specs.Classes.{Classes};
 ghost use Rattle.class_table.specs.TableTexts.{IsTableText};
-ghost use Rattle.area_graph.specs.Problems.{IsProblemOf, AreHeavy};
+ghost use Rattle.area_graph.specs.Problems.{IsProblemOf};
 ghost use Rattle.generalise_steps.specs.Halts.{IfRefused};
 ghost use Rattle.generalise_steps.specs.Loads.{IsMap, Loads};
 ghost use Rattle.generalise_steps.specs.Refusals.{Refuses};
@@ -72,7 +72,6 @@ fn check_cover<W: Crew>(alloc: Global, coverage: Coverage, crew: &W) -> Result<C
 // Makes the problem.
 fn make_problem(alloc: Global, checked: &Checked, table: &Table) -> Result<Problem, Halt>
     ensures found { IfOk result (λ p. IsProblemOf checked.now.areas table.now p) }
-    ensures heavy { IfOk result (λ _. AreHeavy checked.now.areas table.now (length checked.now.areas)) }
     ensures refused { (map text : List ℕ) → IsMap map checked.now → IsTableText text table.now → IfErr result (λ h. IfRefused h (Refuses map text)) }
 {
     match problem_of(alloc, checked, table) {

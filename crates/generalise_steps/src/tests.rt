@@ -15,6 +15,9 @@ use std::test::Fail;
 
 const MAP: &[u8] = b"ncols 3\nnrows 1\nxllcorner 0\nyllcorner 0\ncellsize 1\n1 2 1\n";
 
+// A map with a class that the table lacks.
+const STRANGE: &[u8] = b"ncols 3\nnrows 1\nxllcorner 0\nyllcorner 0\ncellsize 1\n1 3 1\n";
+
 const TABLE: &[u8] = b"classes 1\nunit 1 1\nborder 1\nclass 4 1\nclass 4 2\nrow 0 5\nrow 5 0\n";
 
 // What a map and a table that are short enough give.
@@ -61,10 +64,9 @@ fn maps_are_refused(rt: HostRuntime) -> Result<(), Fail> {
     assert!(rt; says(alloc, header, TABLE, "refused: map Header 3\n")?);
     assert!(rt; says(alloc, centred, TABLE, "refused: map Centred 3\n")?);
     assert!(rt; says(alloc, cell, TABLE, "refused: map Cell 0 1\n")?);
-    assert!(rt; says(alloc, count, TABLE, "refused: map Count 2\n")?);
-    assert!(rt; says(alloc, cells, TABLE, "refused: map Limit Cells\n")?);
     // The map is read before the table.
     assert!(rt; says(alloc, count, b"classes 2\n", "refused: map Count 2\n")?);
+    assert!(rt; says(alloc, cells, TABLE, "refused: map Limit Cells\n")?);
     Ok(())
 }
 
@@ -86,10 +88,11 @@ fn a_checkerboard_has_too_many_areas(rt: HostRuntime) -> Result<(), Fail> {
 fn tables_are_refused(rt: HostRuntime) -> Result<(), Fail> {
     let alloc = rt.alloc();
     let repeated = b"classes 1\nborder 1\nclass 4 a\nclass 4 a\n";
+    // The table is read before the classes of the areas are looked up.
     assert!(rt;
         says(
             alloc,
-            MAP,
+            STRANGE,
             b"classes 2\n",
             "refused: table Line 1 Version\n"
         )?
@@ -105,8 +108,14 @@ fn tables_are_refused(rt: HostRuntime) -> Result<(), Fail> {
 
 #[test]
 fn an_unknown_class_is_refused(rt: HostRuntime) -> Result<(), Fail> {
-    let map = b"ncols 3\nnrows 1\nxllcorner 0\nyllcorner 0\ncellsize 1\n1 3 1\n";
-    assert!(rt; says(rt.alloc(), map, TABLE, "refused: classes UnknownClass 1\n")?);
+    assert!(rt;
+        says(
+            rt.alloc(),
+            STRANGE,
+            TABLE,
+            "refused: classes UnknownClass 1\n"
+        )?
+    );
     Ok(())
 }
 
@@ -122,15 +131,12 @@ fn is_line(line: Result<Text, NoMemory>, due: &str) -> Result<bool, NoMemory> {
 }
 
 #[test]
-fn coverages_are_refused(rt: HostRuntime) -> Result<(), Fail> {
+fn crossings_and_overlaps_are_refused(rt: HostRuntime) -> Result<(), Fail> {
     let alloc = rt.alloc();
     let crossing = CoverFault::Crossing {
         e: edge(&rt, [2, 0], [2, 1]),
         f: edge(&rt, [2, 2], [2, 0]),
         spot: Spot { x: 2, y: 1, m: 1 },
-    };
-    let shared = CoverFault::Shared {
-        edge: edge(&rt, [0, 1], [1, 0]),
     };
     let overlap = CoverFault::Overlap {
         a: 0,
@@ -145,14 +151,23 @@ fn coverages_are_refused(rt: HostRuntime) -> Result<(), Fail> {
     );
     assert!(rt;
         is_line(
-            cover_lines::line_of(alloc, shared),
-            "refused: coverage Shared 1 0 0 1\n"
-        )?
-    );
-    assert!(rt;
-        is_line(
             cover_lines::line_of(alloc, overlap),
             "refused: coverage Overlap 0 1 at 1 1 2\n"
+        )?
+    );
+    Ok(())
+}
+
+#[test]
+fn shared_edges_are_refused(rt: HostRuntime) -> Result<(), Fail> {
+    let alloc = rt.alloc();
+    let shared = CoverFault::Shared {
+        edge: edge(&rt, [0, 1], [1, 0]),
+    };
+    assert!(rt;
+        is_line(
+            cover_lines::line_of(alloc, shared),
+            "refused: coverage Shared 1 0 0 1\n"
         )?
     );
     let below = CoverFault::Shared {

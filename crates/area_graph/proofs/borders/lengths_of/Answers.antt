@@ -22,6 +22,6 @@ loop-area-preserved c =
     let more = steps_more c.args.checked.now.areas c.loop-area.area (omega arith) in
     let long = ap length c.odd.ensures in (
       (λ e. open_more odds c.loop-area.area c.odd.result.now _ _ e c.odd.ensures (c.loop-area.invariant.0 e) (c.in_ok-add_area.ensures.owners e)),
-      (λ q. border_more c.args.unit.0 c.args.unit.1 odds c.loop-area.area c.odd.result.now (get edge_cmp c.loop-area.waiting) (get pair_cmp c.loop-area.lengths q) (get pair_cmp c.add_area.new.lengths q) q c.odd.ensures c.loop-area.invariant.0 (c.loop-area.invariant.1 q) (c.in_ok-add_area.ensures.sums q)),
+      (λ q. border_more c.args.unit.wide c.args.unit.high odds c.loop-area.area c.odd.result.now (get edge_cmp c.loop-area.waiting) (get pair_cmp c.loop-area.lengths q) (get pair_cmp c.add_area.new.lengths q) q c.odd.ensures c.loop-area.invariant.0 (c.loop-area.invariant.1 q) (c.in_ok-add_area.ensures.sums q)),
       omega (arith, more, long, c.loop-area.invariant.2, c.in_ok-add_area.ensures.count),
     )

@@ -10,5 +10,5 @@ use Rattle.area_graph.proofs.borders.lengths_of.Given as goal
 abbrev pub invariant-loop-area : goal.invariant-loop-area
 invariant-loop-area l =
     ((e : Edge) → get edge_cmp l.waiting e ≡ open_in (odds_of l.checked.areas) l.area e)
-    × ((q : Pair) → get pair_cmp l.lengths q ≡ border_in l.unit.0 l.unit.1 (odds_of l.checked.areas) l.area q)
+    × ((q : Pair) → get pair_cmp l.lengths q ≡ border_in l.unit.wide l.unit.high (odds_of l.checked.areas) l.area q)
     × (btree_map_len l.waiting + 2 * btree_map_len l.lengths ≤ step_count (take l.area l.checked.areas))

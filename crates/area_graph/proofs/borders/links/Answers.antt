@@ -13,7 +13,7 @@ returns-clause-links c =
     let areas = c.args.checked.now.areas in
     let odds = odds_of areas in
     let long : length odds ≡ length areas = length-map areas (λ (a : Outline). a.steps) in
-    let made = links_of c.unit.result.0 c.unit.result.1 odds (length areas) c.in_ok-lengths.lengths c.rules.ensures.planar long c.in_ok-links.ensures.ordered c.in_ok-lengths.ensures.sums in
-    let high = subst (λ (h : ℕ). AreLinksOf c.unit.result.0 h odds (map link_of c.in_ok-lengths.lengths.entries)) c.unit.ensures.high made in
-    let wide = subst (λ (w : ℕ). AreLinksOf w c.args.table.now.high odds (map link_of c.in_ok-lengths.lengths.entries)) c.unit.ensures.wide high in
+    let made = links_of c.of.result.wide c.of.result.high odds (length areas) c.in_ok-lengths.lengths c.rules.ensures.planar long c.in_ok-links.ensures.ordered c.in_ok-lengths.ensures.sums in
+    let high = subst (λ (h : ℕ). AreLinksOf c.of.result.wide h odds (map link_of c.in_ok-lengths.lengths.entries)) c.of.ensures.high made in
+    let wide = subst (λ (w : ℕ). AreLinksOf w c.args.table.now.high odds (map link_of c.in_ok-lengths.lengths.entries)) c.of.ensures.wide high in
     subst (λ (ls : List Link). AreLinksOf c.args.table.now.wide c.args.table.now.high odds ls) (sym c.in_ok-links.ensures.links) wide

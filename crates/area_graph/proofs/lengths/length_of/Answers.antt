@@ -14,11 +14,11 @@ small c =
     let b = c.square_of-up.ensures.within in
     small_root (65536 * (c.square_of-across.result + c.square_of-up.result)) c.isqrt.result (omega (arith, a, b)) c.isqrt.ensures.greatest
 
-is : (c : After-isqrt) → c.isqrt.result ≡ edge_length c.args.unit.0 c.args.unit.1 c.args.edge.now
+is : (c : After-isqrt) → c.isqrt.result ≡ edge_length c.args.unit.wide c.args.unit.high c.args.edge.now
 is c =
-    let a = c.square_of-across.ensures.value ∙ ap (stretched c.args.unit.0) (to_z-of_z w128 c.gap.result (record { sfits = c.gap.type_inv }) ∙ c.gap.ensures.value ∙ gap_is c.args.edge.now.high.x c.args.edge.now.low.x c.args.edge.now.high.x_in_range c.args.edge.now.low.x_in_range) in
-    let b = c.square_of-up.ensures.value ∙ ap (stretched c.args.unit.1) (to_z-of_z w128 c.gap-2.result (record { sfits = c.gap-2.type_inv }) ∙ c.gap-2.ensures.value ∙ gap_is c.args.edge.now.high.y c.args.edge.now.low.y c.args.edge.now.high.y_in_range c.args.edge.now.low.y_in_range) in
-    c.isqrt.ensures.value ∙ ap (λ (n : ℕ). root (65536 * (n + c.square_of-up.result))) a ∙ ap (λ (n : ℕ). root (65536 * (stretched c.args.unit.0 (c.args.edge.now.high.x -ℤ c.args.edge.now.low.x) + n))) b
+    let a = c.square_of-across.ensures.value ∙ ap (stretched c.args.unit.wide) (to_z-of_z w128 c.gap.result (record { sfits = c.gap.type_inv }) ∙ c.gap.ensures.value ∙ gap_is c.args.edge.now.high.x c.args.edge.now.low.x c.args.edge.now.high.x_in_range c.args.edge.now.low.x_in_range) in
+    let b = c.square_of-up.ensures.value ∙ ap (stretched c.args.unit.high) (to_z-of_z w128 c.gap-2.result (record { sfits = c.gap-2.type_inv }) ∙ c.gap-2.ensures.value ∙ gap_is c.args.edge.now.high.y c.args.edge.now.low.y c.args.edge.now.high.y_in_range c.args.edge.now.low.y_in_range) in
+    c.isqrt.ensures.value ∙ ap (λ (n : ℕ). root (65536 * (n + c.square_of-up.result))) a ∙ ap (λ (n : ℕ). root (65536 * (stretched c.args.unit.wide (c.args.edge.now.high.x -ℤ c.args.edge.now.low.x) + n))) b
 
 signed : (n : ℕ) → n ≤ 2 ^ 47 → to_z w128 n ≡ pos n
 signed n h = to_z_pos w128 n (omega arith)

@@ -7,4 +7,4 @@ use Rattle.area_graph.proofs.weights.weight_of.Goals as goal
 pub returns : goal.returns
 returns c =
     to_z-of_z w128 c.weight_by.result (record { sfits = c.weight_by.type_inv }) ∙ c.weight_by.ensures
-    ∙ weight_alike c.args.unit.0 c.args.unit.1 c.in_ok-rows.rows c.args.odd.now c.in_ok-rows.ensures
+    ∙ weight_alike c.args.unit.wide c.args.unit.high c.in_ok-rows.rows c.args.odd.now c.in_ok-rows.ensures
