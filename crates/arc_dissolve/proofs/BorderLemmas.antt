@@ -112,6 +112,7 @@ pub border_arcs : (odds : List (List Edge)) (groups : Groups) (borders : List (L
 border_arcs odds groups borders rings arcs d a = record {
   long = a.long;
   stepping = a.stepping;
+  in_order = a.in_order;
   steps = record {
     once = λ e b. a.once (ends_of e) (step_of_border odds groups borders rings e d b);
     only = λ s c.

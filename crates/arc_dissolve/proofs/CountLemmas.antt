@@ -74,6 +74,7 @@ drawn_ring arcs ring indexes r i = record {
   in_range = i.in_range;
   closed = (i.walk.begin, i.walk.joined);
   simple = turn_is_ring ring (told arcs indexes) r i.walk.met;
+  first = i.first;
 }
 
 pub told_counts : (p : Step → Bool) (arcs : List (List Point)) (rings : List (List Point)) (indexes : List (List ℤ)) → AllZip (AreIndexesOf arcs) rings indexes → count_by p (steps_told arcs indexes) ≡ count_by p (flat_map steps_of_ring rings)

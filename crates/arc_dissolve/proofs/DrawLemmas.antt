@@ -100,6 +100,7 @@ right_shape odds groups names borders rings arcs indexes shapes r d m h =
         rings = All-permutation (IsDrawnRing arcs) part (rings_in figure.polygons) is.polygons.same (drawn_all arcs own part are.each told_part);
         steps = border_steps odds (region groups) r border steps (m.drawn.exact r h) counted;
         polygons = is.polygons.each;
+        in_order = is.polygons.in_order;
       };
       long = equally_long steps (map ends_of border) counted ∙ length-map border ends_of;
     }

@@ -1,6 +1,6 @@
 -- Holes with the shells that own them.
 use Rattle.std.proofs.Common.{◌≡◌, ◌≢◌, ℕ, ◌<◌, ◌≤◌, inl, inr, true, false, ℤ, ◌<ℤ◌, List, [], ◌∷◌, length, map, get_or, slice_index, All, refl, sym, ap, subst, ◌∙◌, arith}
-use Rattle.std.specs.List.Sorted.{IsPermutation}
+use Rattle.std.specs.List.Sorted.{IsNonDecreasingBy, IsPermutation}
 use Rattle.std.proofs.lemmas.Bool.{false≢true}
 use Rattle.std.proofs.lemmas.List.{get_or-map, get_or_default, length-map}
 use Rattle.std.proofs.lemmas.List.Elements.{All-weaker, Contains-get_or}
@@ -13,12 +13,13 @@ use Rattle.plane_edge.specs.declared.spot.Spot.{Spot}
 use Rattle.edge_rows.proofs.CrossLemmas.{inside_alike}
 use Rattle.arc_dissolve.specs.declared.shell.Shell.{Shell}
 use Rattle.arc_dissolve.specs.Drawing.{rings_in, ArePolygonsOf}
-use Rattle.arc_dissolve.specs.Holes.{is_shell, first_arc, IsMiddleOf, IsAround, IsCandidate, IsNotAfter, IsOwner, IsUnowned, IsPolygon}
+use Rattle.arc_dissolve.specs.Holes.{is_shell, first_arc, first_ring, IsMiddleOf, IsAround, IsCandidate, IsNotAfter, IsOwner, IsUnowned, IsPolygon}
 use Rattle.arc_dissolve.specs.Rings.{told, round_sum}
 use Rattle.arc_dissolve.specs.Shells.{AreRowsOf, IsShellOf, IsShellAmong, AreShells, IsNoLater, IsBestOf, IsOutside, IsHead, AreHeadsOf}
 use Rattle.arc_dissolve.specs.Shells.IsHead.{shell, unowned, owned}
-use Rattle.arc_dissolve.specs.Slots.{AreHeads, IsBehind, IsGroup, AreGroups}
+use Rattle.arc_dissolve.specs.Slots.{AreHeads, IsBehind, IsGroup, ArePlaced, rings_behind, AreGroups}
 use Rattle.arc_dissolve.proofs.OneLemmas.{one_edges, one_middle}
+use Rattle.arc_dissolve.proofs.OrderLemmas.{in_order_placed, in_order_before_map}
 
 -- the rings, their points, the shells among them, and with which ring each stands
 pub record IsLaidOut (arcs : List (List Point)) (rings : List (List ℤ)) (shells : List Shell) (heads : List ℕ) : Type 0 where
@@ -186,13 +187,14 @@ alone_by arcs rings shells heads h l f (shell t e) = absurd (false≢true (sym f
 alone_by arcs rings shells heads h l f (unowned t s m o e) = no_owner arcs rings shells heads (get_or rings h []) s l m o
 alone_by arcs rings shells heads h l f (owned t s m best b e) = absurd (false≢true (sym f ∙ (best_place arcs rings shells heads s best h l b e).is))
 
-polygon_of : (arcs : List (List Point)) (rings : List (List ℤ)) (shells : List Shell) (heads : List ℕ) (h : ℕ) (group : List (List ℤ)) → IsLaidOut arcs rings shells heads → IsGroup rings heads h group → IsPolygon arcs rings group
-polygon_of arcs rings shells heads h group l g = record {
+polygon_of : (arcs : List (List Point)) (rings : List (List ℤ)) (shells : List Shell) (heads : List ℕ) (h : ℕ) (group : List (List ℤ)) → IsLaidOut arcs rings shells heads → IsNonDecreasingBy first_arc rings → IsGroup rings heads h group → ArePlaced rings (length rings) (rings_behind group) → IsPolygon arcs rings group
+polygon_of arcs rings shells heads h group l o g p = record {
   front = get_or rings h [];
   holes = g.rest;
   is = g.is;
   owned = All-weaker (IsBehind rings heads h) (IsOwner arcs rings (get_or rings h [])) (λ ring b. behind_owned arcs rings shells heads h ring l b) g.rest g.behind;
   alone = λ f. alone_by arcs rings shells heads h l f (subst (λ p. IsHead shells (told arcs (get_or rings h [])) h p) g.own (head_at arcs rings shells heads h l g.within));
+  in_order = subst (IsNonDecreasingBy first_arc) (ap rings_behind g.is) (in_order_placed first_arc rings (length rings) (rings_behind group) (omega arith) o p);
 }
 
 -- the same rings in another order have the same candidates
@@ -212,10 +214,12 @@ polygon_in arcs rings all polygon p g =
         least = λ other c. o.least other (candidate_in arcs all rings hole other back c);
       }) g.holes g.owned;
       alone = λ f other c. g.alone f other (candidate_in arcs all rings g.front other back c);
+      in_order = g.in_order;
     }
 
-pub polygons_are : (arcs : List (List Point)) (rings : List (List ℤ)) (shells : List Shell) (heads : List ℕ) (first : List (List ℤ)) (groups : List (List (List ℤ))) → IsPermutation first rings → IsLaidOut arcs rings shells heads → AreGroups rings heads groups → ArePolygonsOf arcs first groups
-polygons_are arcs rings shells heads first groups p l g = record {
+pub polygons_are : (arcs : List (List Point)) (rings : List (List ℤ)) (shells : List Shell) (heads : List ℕ) (first : List (List ℤ)) (groups : List (List (List ℤ))) → IsPermutation first rings → IsNonDecreasingBy first_arc rings → IsLaidOut arcs rings shells heads → AreGroups rings heads groups → ArePolygonsOf arcs first groups
+polygons_are arcs rings shells heads first groups p o l g = record {
   same = IsPermutation-trans first rings (rings_in groups) p g.same;
-  each = All-weaker (λ group. (h : ℕ) × IsGroup rings heads h group) (IsPolygon arcs (rings_in groups)) (λ group w. polygon_in arcs rings (rings_in groups) group g.same (polygon_of arcs rings shells heads w.0 group l w.1)) groups g.each;
+  each = λ k d h. (let w = g.each k d h in polygon_in arcs rings (rings_in groups) (get_or groups k d) g.same (polygon_of arcs rings shells heads w.0 (get_or groups k d) l o w.1 (g.placed k d h)));
+  in_order = in_order_before_map first_arc first_ring groups (in_order_placed first_arc rings (length rings) (map first_ring groups) (omega arith) o g.fronts);
 }

@@ -2,6 +2,7 @@ pub mod ListLemmas
 pub mod EdgeLemmas
 pub mod ToldLemmas
 pub mod ShellLemmas
+pub mod OrderLemmas
 pub mod SlotLemmas
 pub mod OneLemmas
 pub mod HoleLemmas
@@ -10,3 +11,4 @@ pub mod CountLemmas
 pub mod BorderLemmas
 pub mod PartLemmas
 pub mod DrawLemmas
+mod Examples

@@ -10,7 +10,7 @@ use Rattle.plane_edge.specs.declared.spot.Spot.{Spot}
 use Rattle.plane_edge.proofs.EqualLemmas.{edges_equal}
 use Rattle.plane_edge.proofs.OrderLemmas.{EdgeCase, edge_case}
 use Rattle.plane_edge.proofs.OrderLemmas.EdgeCase.{below, same, above}
-use Rattle.region_rings.specs.Sides.{middle_of}
+use Rattle.plane_edge.specs.Middle.{middle_of}
 use Rattle.arc_dissolve.specs.Holes.{AreStepsOf, IsLeastOf, IsMiddleOf}
 
 -- an edge is told by its ends

@@ -6,7 +6,8 @@ use Rattle.std.proofs.lemmas.Bool.Decides.{eqb_tells}
 use Rattle.std.proofs.lemmas.List.{append-nil, append_assoc, map-append, get_or_append_left, get_or_push, get_or_default, get_or-set_same, get_or-set_other, length_push, length-set, take_all, flat_map_more}
 use Rattle.std.proofs.lemmas.List.Elements.{All-nil, All-push, All-filter, filter_more, filter_passes}
 use Rattle.std.proofs.lemmas.List.Sorted.{IsPermutation-refl, IsPermutation-trans, IsPermutation-map, IsPermutation-append_left, IsPermutation-append_right, IsPermutation-append_comm, IsPermutation-filter_both}
-use Rattle.arc_dissolve.specs.Slots.{AreHeads, IsBehind, IsGroup, AreGroups, marked, fronts, others, is_filled, IsSlot, AreFronts, AreSlots}
+use Rattle.arc_dissolve.specs.Slots.{AreHeads, IsBehind, IsGroup, ArePlaced, rings_behind, AreGroups, marked, fronts, others, is_filled, IsSlot, AreFronts, AreSlots}
+use Rattle.arc_dissolve.proofs.OrderLemmas.{placed_none, placed_still, placed_more, fronts_from}
 use Rattle.arc_dissolve.proofs.ShellLemmas.{below_next}
 
 abbrev Rings : Type 0
@@ -66,6 +67,10 @@ slot_by false rings heads k slot h t s = record {
   some = λ o. absurd (false≢true (sym t ∙ eq-eqb (slice_index heads k) k o));
 }
 
+none_behind : (b : Bool) (ring : List ℤ) (slot : Rings) → slot ≡ cond b (ring ∷ []) [] → rings_behind slot ≡ []
+none_behind true ring slot e = ap rings_behind e
+none_behind false ring slot e = ap rings_behind e
+
 fronts_by : (b : Bool) (rings : Rings) (heads : List ℕ) (n : ℕ) (slot : Rings) (old new : List Rings) → length heads ≡ length rings → n < length rings → eqb (slice_index heads n) n ≡ b → slot ≡ cond b (get_or rings n [] ∷ []) [] → new ≡ old ++ slot ∷ [] → AreFronts rings heads n old → AreFronts rings heads (n + 1) new
 fronts_by b rings heads n slot old new e h t s w are =
     let flat : flat_map (λ l. l) (old ++ slot ∷ []) ≡ flat_map (λ l. l) old ++ slot = sym (flat_map_more (λ l. l) [] old slot) in
@@ -75,6 +80,10 @@ fronts_by b rings heads n slot old new e h t s w are =
       each = λ k l. elim (below_next k n l) [
         | inl m ↦ subst (λ z. IsSlot rings heads k z) (sym (get_or_append_left old (slot ∷ []) [] k (omega (arith, are.count)))) (are.each k m)
         | inr q ↦ subst (λ j. IsSlot rings heads j (get_or (old ++ slot ∷ []) j [])) (sym q) (subst (λ z. IsSlot rings heads n z) (sym (get_or_push old slot [] n are.count)) (slot_by b rings heads n slot h t s))
+      ];
+      bare = λ k l. elim (below_next k n l) [
+        | inl m ↦ ap rings_behind (get_or_append_left old (slot ∷ []) [] k (omega (arith, are.count))) ∙ are.bare k m
+        | inr q ↦ ap (λ j. rings_behind (get_or (old ++ slot ∷ []) j [])) q ∙ (ap rings_behind (get_or_push old slot [] n are.count) ∙ none_behind b (get_or rings n []) slot s)
       ];
     })
 
@@ -86,7 +95,7 @@ slots_begun rings heads slots e are =
     let marks = marked 0 rings heads in
     let all : fronts (take (length rings) marks) ≡ fronts marks = ap fronts (take_all (length rings) marks (omega (arith, length-marked 0 rings heads e))) in
     let same : flat_map (λ l. l) slots ≡ fronts marks ++ [] = are.are ∙ (all ∙ sym (append-nil (fronts marks))) in
-    record { count = are.count; same = subst (λ l. IsPermutation (fronts marks ++ []) l) (sym same) (IsPermutation-refl (fronts marks ++ [])); each = are.each }
+    record { count = are.count; same = subst (λ l. IsPermutation (fronts marks ++ []) l) (sym same) (IsPermutation-refl (fronts marks ++ [])); each = are.each; placed = λ k l. placed_none rings 0 (rings_behind (get_or slots k [])) (are.bare k l) }
 
 -- a ring at the end of one list is a ring at the end of all
 put_moves : (slots : List Rings) (h : ℕ) (x : List ℤ) → h < length slots → IsPermutation (flat_map (λ l. l) slots ++ x ∷ []) (flat_map (λ l. l) (set slots h (get_or slots h [] ++ x ∷ [])))
@@ -113,6 +122,11 @@ group_more rings heads h group ring g b = record {
 slot_more : (rings : Rings) (heads : List ℕ) (h : ℕ) (slot : Rings) (ring : List ℤ) → slice_index heads h ≡ h → IsBehind rings heads h ring → IsSlot rings heads h slot → IsSlot rings heads h (slot ++ ring ∷ [])
 slot_more rings heads h slot ring own b s = record { none = λ n. absurd (n own); some = λ o. group_more rings heads h slot ring (s.some o) b }
 
+placed_behind : (rings : Rings) (heads : List ℕ) (n h : ℕ) (slot : Rings) (ring : List ℤ) → IsGroup rings heads h slot → ring ≡ get_or rings n [] → ArePlaced rings n (rings_behind slot) → ArePlaced rings (n + 1) (rings_behind (slot ++ ring ∷ []))
+placed_behind rings heads n h slot ring g r p =
+    let rest : ArePlaced rings n g.rest = subst (λ s. ArePlaced rings n (rings_behind s)) g.is p in
+    subst (λ s. ArePlaced rings (n + 1) (rings_behind (s ++ ring ∷ []))) (sym g.is) (placed_more rings n g.rest ring r rest)
+
 pub slots_put : (rings : Rings) (heads : List ℕ) (n : ℕ) (ring : List ℤ) (old new : List Rings) → AreHeads (length rings) heads → n < length rings → ring ≡ get_or rings n [] → slice_index heads n ≢ n → new ≡ set old (slice_index heads n) (get_or old (slice_index heads n) [] ++ ring ∷ []) → AreSlots rings heads n old → AreSlots rings heads (n + 1) new
 slots_put rings heads n ring old new hs l r apart w are =
     let h = slice_index heads n in
@@ -131,6 +145,10 @@ slots_put rings heads n ring old new hs l r apart w are =
         | inl e ↦ subst (λ j. IsSlot rings heads j (get_or after j [])) (sym e) (subst (λ z. IsSlot rings heads h z) (sym (get_or-set_same old h (get_or old h [] ++ ring ∷ []) [] within)) (slot_more rings heads h (get_or old h []) ring (hs.settled n l) behind (are.each h (hs.within n l))))
         | inr d ↦ subst (λ z. IsSlot rings heads k z) (sym (get_or-set_other old h k (get_or old h [] ++ ring ∷ []) [] d)) (are.each k m)
       ];
+      placed = λ k m. elim (cases_eq k h) [
+        | inl e ↦ subst (λ j. ArePlaced rings (n + 1) (rings_behind (get_or after j []))) (sym e) (subst (λ z. ArePlaced rings (n + 1) (rings_behind z)) (sym (get_or-set_same old h (get_or old h [] ++ ring ∷ []) [] within)) (placed_behind rings heads n h (get_or old h []) ring ((are.each h (hs.within n l)).some (hs.settled n l)) r (are.placed h (hs.within n l))))
+        | inr d ↦ subst (λ z. ArePlaced rings (n + 1) (rings_behind z)) (sym (get_or-set_other old h k (get_or old h [] ++ ring ∷ []) [] d)) (placed_still rings n (rings_behind (get_or old k [])) (are.placed k m))
+      ];
     })
 
 pub slots_same : (rings : Rings) (heads : List ℕ) (n : ℕ) (old new : List Rings) → length heads ≡ length rings → n < length rings → slice_index heads n ≡ n → new ≡ old → AreSlots rings heads n old → AreSlots rings heads (n + 1) new
@@ -142,6 +160,7 @@ slots_same rings heads n old new e l own w are =
       count = are.count;
       same = subst (λ x. IsPermutation (fronts marks ++ x) (flat_map (λ y. y) old)) (sym grown) are.same;
       each = are.each;
+      placed = λ k m. placed_still rings n (rings_behind (get_or old k [])) (are.placed k m);
     })
 
 -- ---- groups
@@ -161,6 +180,9 @@ group_of rings heads k slot s t = elim (cases_eq (slice_index heads k) k) [ inl 
 all_filled : (P : Rings → Type 0) (slots : List Rings) → All (λ s. is_filled s ≡ true → P s) slots → All (λ s. is_filled s ≡ true) slots → All P slots
 all_filled P slots f t k d l = f k d l (t k d l)
 
+slot_at : (rings : Rings) (heads : List ℕ) (k : ℕ) (slot : Rings) → IsSlot rings heads k slot → IsSlot rings heads (0 + k) slot
+slot_at rings heads k slot s = let same : k ≡ 0 + k = omega arith in subst (λ j. IsSlot rings heads j slot) same s
+
 pub groups_are : (rings : Rings) (heads : List ℕ) (slots groups : List Rings) → length heads ≡ length rings → AreSlots rings heads (length rings) slots → groups ≡ filter is_filled slots → AreGroups rings heads groups
 groups_are rings heads slots groups e are w =
     let marks = marked 0 rings heads in
@@ -173,4 +195,6 @@ groups_are rings heads slots groups e are w =
     subst (λ l. AreGroups rings heads l) (sym w) (record {
       same = subst (λ l. IsPermutation rings l) (sym (filled_flat slots)) whole;
       each = all_filled (λ group. (h : ℕ) × IsGroup rings heads h group) (filter is_filled slots) (All-filter is_filled (IsGroupIfFilled rings heads) slots each) (filter_passes is_filled slots);
+      fronts = (fronts_from rings heads 0 (length rings) slots (omega (arith, are.count)) (λ k m. slot_at rings heads k (get_or slots k []) (are.each k (omega (arith, are.count))))).placed;
+      placed = All-filter is_filled (λ group. ArePlaced rings (length rings) (rings_behind group)) slots (λ k d m. subst (λ z. ArePlaced rings (length rings) (rings_behind z)) (get_or_default slots k [] d m) (are.placed k (omega (arith, are.count))));
     })

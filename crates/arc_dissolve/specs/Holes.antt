@@ -1,12 +1,13 @@
 -- Which shell a hole stands with.
 use Rattle.std.specs.Prelude.{◌≡◌, ℕ, ◌≤◌, ◌⊎◌, Bool, true, false, if◌then◌else◌, ℤ, pos, ◌<ℤ◌, int_lt, List, [], ◌∷◌, map, All, Contains}
+use Rattle.std.specs.List.Sorted.{IsNonDecreasingBy}
 use Rattle.plane_edge.specs.Edges.{is_edge_below}
 use Rattle.plane_edge.specs.Plane.{IsInside}
 use Rattle.plane_edge.specs.Rings.{ends_of, steps_of_ring}
 use Rattle.plane_edge.specs.declared.edge.Edge.{Edge}
 use Rattle.plane_edge.specs.declared.point.Point.{Point}
 use Rattle.plane_edge.specs.declared.spot.Spot.{Spot}
-use Rattle.region_rings.specs.Sides.{middle_of}
+use Rattle.plane_edge.specs.Middle.{middle_of}
 use Rattle.ring_arcs.specs.Numbers.{number_of}
 use Rattle.arc_dissolve.specs.Rings.{told, round_sum}
 
@@ -14,6 +15,11 @@ use Rattle.arc_dissolve.specs.Rings.{told, round_sum}
 abbrev pub first_arc : List ℤ → ℕ
 first_arc [] = 0
 first_arc (index ∷ indexes) = number_of index
+
+-- the first of the rings
+abbrev pub first_ring : List (List ℤ) → List ℤ
+first_ring [] = []
+first_ring (ring ∷ rings) = ring
 
 -- the ring has its inside on its left
 abbrev pub is_shell : List Point → Bool
@@ -69,10 +75,15 @@ pub record IsOwner (arcs : List (List Point)) (rings : List (List ℤ)) (shell h
 abbrev pub IsUnowned : List (List Point) → List (List ℤ) → List ℤ → Type 0
 IsUnowned arcs rings hole = (shell : List ℤ) → ¬ IsCandidate arcs rings hole shell
 
--- a polygon of a shape that has these rings: a shell and the holes that it owns, or a hole alone for which there is no candidate
+-- a polygon of a shape that has these rings: a shell and the holes that it owns, in the order of their first arcs; or a hole alone for which there is no candidate
 pub record IsPolygon (arcs : List (List Point)) (rings polygon : List (List ℤ)) : Type 0 where
   pub front : List ℤ
   pub holes : List (List ℤ)
   pub is : polygon ≡ front ∷ holes
   pub owned : All (IsOwner arcs rings front) holes
   pub alone : is_shell (told arcs front) ≡ false → IsUnowned arcs rings front
+  pub in_order : IsNonDecreasingBy first_arc holes
+
+-- the polygons are in the order of the first arcs of their first rings
+abbrev pub ArePolygonsInOrder : List (List (List ℤ)) → Type 0
+ArePolygonsInOrder polygons = IsNonDecreasingBy (λ polygon. first_arc (first_ring polygon)) polygons

@@ -3,6 +3,7 @@ use Rattle.std.specs.Prelude.{◌<◌, ℤ, pos, ◌+ℤ◌, ◌-ℤ◌, ◌*ℤ
 use Rattle.plane_edge.specs.Rings.{steps_of_ring}
 use Rattle.plane_edge.specs.declared.point.Point.{Point}
 use Rattle.region_rings.specs.RegionRings.{IsRing}
+use Rattle.ring_arcs.specs.Numbers.{IsLeastAt}
 use Rattle.ring_arcs.specs.RingArcs.{arc_at, without_last, AreJoined, IsIndex}
 
 -- the points of the ring: arc after arc, each without its last point
@@ -13,12 +14,13 @@ told arcs ring = flat_map without_last (map (arc_at arcs) ring)
 abbrev pub IsClosedWalk : List (List Point) → List ℤ → Type 0
 IsClosedWalk arcs ring = (p : Point) × AreJoined (Some p) (map (arc_at arcs) ring) (Some p)
 
--- one index or more, each of an arc; the arcs go round, and no point is visited twice
+-- one index or more, each of an arc; the arcs go round from the one of least number on, and no point is visited twice
 pub record IsDrawnRing (arcs : List (List Point)) (ring : List ℤ) : Type 0 where
   pub some : 0 < length ring
   pub in_range : All (IsIndex arcs) ring
   pub closed : IsClosedWalk arcs ring
   pub simple : IsRing (told arcs ring)
+  pub first : IsLeastAt ring (length ring) 0
 
 -- the steps of the rings, ring by ring
 abbrev pub steps_told : List (List Point) → List (List ℤ) → List (Point × Point)

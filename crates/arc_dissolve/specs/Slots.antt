@@ -1,6 +1,7 @@
 -- Lists put together by their heads.
-use Rattle.std.specs.Prelude.{◌≡◌, ◌≢◌, ℕ, ◌+◌, ◌<◌, Bool, true, false, not, ◌==◌, ℤ, List, [], ◌∷◌, ◌++◌, length, map, filter, flat_map, take, get_or, slice_index, All}
+use Rattle.std.specs.Prelude.{◌≡◌, ◌≢◌, ℕ, ◌+◌, ◌<◌, Bool, true, false, not, ◌==◌, ℤ, List, [], ◌∷◌, ◌++◌, length, map, filter, flat_map, take, get_or, slice_index, All, AllPairs}
 use Rattle.std.specs.List.Sorted.{IsPermutation}
+use Rattle.arc_dissolve.specs.Holes.{first_ring}
 
 -- each place has a head, which is its own head
 pub record AreHeads (n : ℕ) (heads : List ℕ) : Type 0 where
@@ -24,10 +25,24 @@ pub record IsGroup (rings : List (List ℤ)) (heads : List ℕ) (h : ℕ) (group
   pub is : group ≡ get_or rings h [] ∷ rest
   pub behind : All (IsBehind rings heads h) rest
 
--- all the rings, in such groups
+-- some of the rings, which stand at rising places below n
+pub record ArePlaced (rings : List (List ℤ)) (n : ℕ) (some : List (List ℤ)) : Type 0 where
+  pub places : List ℕ
+  pub are : some ≡ map (λ k. get_or rings k []) places
+  pub rising : AllPairs (λ j k. j < k) places
+  pub below : All (λ k. k < n) places
+
+-- the rings but the first one
+abbrev pub rings_behind : List (List ℤ) → List (List ℤ)
+rings_behind [] = []
+rings_behind (ring ∷ rings) = rings
+
+-- all the rings, in such groups, and in their order: the first rings of the groups, and the others within each
 pub record AreGroups (rings : List (List ℤ)) (heads : List ℕ) (groups : List (List (List ℤ))) : Type 0 where
   pub same : IsPermutation rings (flat_map (λ group. group) groups)
   pub each : All (λ group. (h : ℕ) × IsGroup rings heads h group) groups
+  pub fronts : ArePlaced rings (length rings) (map first_ring groups)
+  pub placed : All (λ group. ArePlaced rings (length rings) (rings_behind group)) groups
 
 -- each ring, and whether it is its own head, the first of them having the number k
 abbrev pub marked : ℕ → List (List ℤ) → List ℕ → List (List ℤ × Bool)
@@ -58,9 +73,11 @@ pub record AreFronts (rings : List (List ℤ)) (heads : List ℕ) (n : ℕ) (slo
   pub count : length slots ≡ n
   pub are : flat_map (λ slot. slot) slots ≡ fronts (take n (marked 0 rings heads))
   pub each : (k : ℕ) → k < n → IsSlot rings heads k (get_or slots k [])
+  pub bare : (k : ℕ) → k < n → rings_behind (get_or slots k []) ≡ []
 
 -- slots of all rings, in which of the first n those stand that are to stand behind others
 pub record AreSlots (rings : List (List ℤ)) (heads : List ℕ) (n : ℕ) (slots : List (List (List ℤ))) : Type 0 where
   pub count : length slots ≡ length rings
   pub same : IsPermutation (fronts (marked 0 rings heads) ++ others (take n (marked 0 rings heads))) (flat_map (λ slot. slot) slots)
   pub each : (k : ℕ) → k < length rings → IsSlot rings heads k (get_or slots k [])
+  pub placed : (k : ℕ) → k < length rings → ArePlaced rings n (rings_behind (get_or slots k []))

@@ -1,7 +1,8 @@
 //! The polygons of a region.
 ghost use Rattle.std.specs.Prelude.{◌≡◌, All, IfOk};
-ghost use Rattle.std.specs.List.Sorted.{IsPermutation};
+ghost use Rattle.std.specs.List.Sorted.{IsNonDecreasingBy, IsPermutation};
 ghost use Rattle.arc_dissolve.specs.Drawing.{ArePolygonsOf};
+ghost use Rattle.arc_dissolve.specs.Holes.{first_arc};
 ghost use Rattle.arc_dissolve.specs.Rings.{IsDrawnRing};
 ghost use Rattle.arc_dissolve.specs.Shapes.{lists_of, nested_of};
 
@@ -27,14 +28,16 @@ fn copy(alloc: Global, rings: &[Vec<i64>]) -> Result<Vec<Vec<i64>>, NoMemory>
 
 /// The rings in the order of their first arcs.
 fn ordered(alloc: Global, rings: &[Vec<i64>]) -> Result<Vec<Vec<i64>>, NoMemory>
-    ensures { IfOk result (λ copies. IsPermutation (lists_of rings.now) (lists_of copies.items)) }
+    ensures same { IfOk result (λ copies. IsPermutation (lists_of rings.now) (lists_of copies.items)) }
+    ensures in_order { IfOk result (λ copies. IsNonDecreasingBy first_arc (lists_of copies.items)) }
 {
     let mut copies = copy(alloc, rings)?;
     copies.sort_unstable_by_key(|ring| first_arc(ring));
     Ok(copies)
 }
 
-/// The polygons that the rings make: each shell with the holes that it owns.
+/// The polygons that the rings make: each shell with the holes that it owns. Polygons are in the order of the first arcs of their first rings, and
+/// holes in that of their own.
 pub fn polygons_of(
     alloc: Global,
     arcs: &[Vec<Point>],

@@ -4,7 +4,7 @@ use plane_edge::Point;
 use std::marker::Model;
 
 /// A drawn region: its class text, and its polygons. A polygon is a list of rings, its shell before its holes, and a ring a list of
-/// indexes of arcs, one or more, that go round it: i is arc i in its direction, -i - 1 is arc i backwards.
+/// indexes of arcs, one or more, that go round it. Indexes are those of TopoJSON 1.0: i is arc i in its direction, -i - 1 is arc i backwards.
 #[derive(Drop)]
 pub struct Shape {
     /// The class text.

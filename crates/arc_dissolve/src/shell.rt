@@ -4,12 +4,11 @@ ghost use Rattle.arc_dissolve.specs.Rings.{round_sum};
 ghost use Rattle.arc_dissolve.specs.Shapes.{lists_of};
 ghost use Rattle.arc_dissolve.specs.Shells.{AreRowsOf, IsShellOf, AreShells};
 
-use crate::edges::edges_of;
 use crate::numbers::first_arc;
 use crate::winding::round_sum;
 use agg_base::NoMemory;
 use edge_rows::EdgeRows;
-use plane_edge::Point;
+use plane_edge::{Point, steps_of_ring};
 use std::alloc::Global;
 
 /// A ring that has its inside on its left.
@@ -29,8 +28,8 @@ pub struct Shell {
 fn rows_of(alloc: Global, outline: &[Point]) -> Result<EdgeRows, NoMemory>
     ensures { IfOk result (AreRowsOf outline.now) }
 {
-    let edges = edges_of(alloc, outline)?;
-    let rows = EdgeRows::of(alloc, &edges)?;
+    let steps = steps_of_ring(alloc, outline)?;
+    let rows = EdgeRows::of(alloc, &steps)?;
     Ok(rows)
 }
 

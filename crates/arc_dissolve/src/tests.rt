@@ -278,3 +278,152 @@ fn one_area_may_have_two_shells(rt: HostRuntime) -> Result<(), Fail> {
     is_shape(&rt, &regions.shapes[0], "wood", &[&[&[0]], &[&[1]]]);
     Ok(())
 }
+
+/// Tries that one area is drawn as these polygons.
+fn draws(
+    rt: &impl Abort,
+    alloc: Global,
+    area: &[Rings<'_>],
+    polygons: &[Polygon<'_>],
+) -> Result<(), Fail> {
+    let regions = drawn(rt, alloc, area, &[0], &[1])?;
+    assert!(rt; regions.shapes.len() == 1);
+    is_shape(rt, &regions.shapes[0], "wood", polygons);
+    Ok(())
+}
+
+/// Two blocks that touch at the corners of a notch, which is on the right of one of them or on its top: no hole is drawn.
+#[test]
+fn shells_that_touch_twice_stay_apart(rt: HostRuntime) -> Result<(), Fail> {
+    let alloc = rt.alloc();
+    let bent: Rings<'_> = &[
+        &[
+            [0, 0],
+            [2, 0],
+            [2, 1],
+            [1, 1],
+            [1, 2],
+            [2, 2],
+            [2, 3],
+            [0, 3],
+        ],
+        &[[2, 1], [3, 1], [3, 2], [2, 2]],
+    ];
+    draws(&rt, alloc, &[bent], &[&[&[-1, 1]], &[&[2, -4]]])?;
+    let tub: Rings<'_> = &[
+        &[
+            [0, 0],
+            [3, 0],
+            [3, 2],
+            [2, 2],
+            [2, 1],
+            [1, 1],
+            [1, 2],
+            [0, 2],
+        ],
+        &[[1, 2], [2, 2], [2, 3], [1, 3]],
+    ];
+    draws(&rt, alloc, &[tub], &[&[&[-1, 1]], &[&[2, -4]]])
+}
+
+const FAR: Ring<'_> = &[[5, 0], [6, 0], [6, 1], [5, 1]];
+
+/// The walk draws the western block first, and its arc comes second: it begins where the blocks touch.
+#[test]
+fn polygons_are_in_the_order_of_their_arcs(rt: HostRuntime) -> Result<(), Fail> {
+    let alloc = rt.alloc();
+    let regions = drawn(&rt, alloc, &[&[WEST, FAR], &[BEYOND]], &[0, 1], &[1, 0])?;
+    has_arcs(
+        &rt,
+        alloc,
+        &regions,
+        &[
+            &[[5, 0], [6, 0], [6, 1], [5, 1], [5, 0]],
+            &[[1, 1], [1, 0], [0, 0], [0, 1], [1, 1]],
+            &[[1, 1], [2, 1], [2, 2], [1, 2], [1, 1]],
+        ],
+    )?;
+    assert!(rt; regions.shapes.len() == 2);
+    is_shape(&rt, &regions.shapes[0], "wood", &[&[&[0]], &[&[-2]]]);
+    is_shape(&rt, &regions.shapes[1], "lake", &[&[&[2]]]);
+    Ok(())
+}
+
+/// The walk comes round the upper hole first, and its arc comes last.
+#[test]
+fn holes_are_in_the_order_of_their_arcs(rt: HostRuntime) -> Result<(), Fail> {
+    let alloc = rt.alloc();
+    let regions = drawn(
+        &rt,
+        alloc,
+        &[&[
+            &[[0, 0], [4, 0], [4, 4], [0, 4]],
+            &[[1, 1], [2, 1], [2, 2], [1, 2]],
+            &[[2, 2], [3, 2], [3, 3], [2, 3]],
+        ]],
+        &[0],
+        &[1],
+    )?;
+    has_arcs(
+        &rt,
+        alloc,
+        &regions,
+        &[
+            &[[0, 0], [4, 0], [4, 4], [0, 4], [0, 0]],
+            &[[2, 2], [2, 1], [1, 1], [1, 2], [2, 2]],
+            &[[2, 2], [3, 2], [3, 3], [2, 3], [2, 2]],
+        ],
+    )?;
+    assert!(rt; regions.shapes.len() == 1);
+    is_shape(&rt, &regions.shapes[0], "wood", &[&[&[0], &[1], &[-3]]]);
+    Ok(())
+}
+
+/// A block with a hole that another region fills, and in a hole of that an island of the first region.
+#[test]
+fn an_island_in_a_hole_is_a_polygon(rt: HostRuntime) -> Result<(), Fail> {
+    let alloc = rt.alloc();
+    let wide: Ring<'_> = &[[0, 0], [7, 0], [7, 7], [0, 7]];
+    let middle: Ring<'_> = &[[1, 1], [6, 1], [6, 6], [1, 6]];
+    let island: Ring<'_> = &[[2, 2], [5, 2], [5, 5], [2, 5]];
+    let regions = drawn(
+        &rt,
+        alloc,
+        &[&[wide, middle], &[middle, island], &[island]],
+        &[0, 1, 0],
+        &[1, 0],
+    )?;
+    has_arcs(
+        &rt,
+        alloc,
+        &regions,
+        &[
+            &[[0, 0], [7, 0], [7, 7], [0, 7], [0, 0]],
+            &[[1, 1], [6, 1], [6, 6], [1, 6], [1, 1]],
+            &[[2, 2], [5, 2], [5, 5], [2, 5], [2, 2]],
+        ],
+    )?;
+    assert!(rt; regions.shapes.len() == 2);
+    is_shape(&rt, &regions.shapes[0], "wood", &[&[&[0], &[-2]], &[&[2]]]);
+    is_shape(&rt, &regions.shapes[1], "lake", &[&[&[1], &[-3]]]);
+    Ok(())
+}
+
+#[test]
+fn what_has_no_area_has_no_polygons(rt: HostRuntime) -> Result<(), Fail> {
+    let alloc = rt.alloc();
+    let regions = drawn(&rt, alloc, &[], &[], &[])?;
+    has_arcs(&rt, alloc, &regions, &[])?;
+    assert!(rt; regions.shapes.is_empty());
+    let regions = drawn(&rt, alloc, &[&[WEST]], &[1], &[0, 2])?;
+    has_arcs(
+        &rt,
+        alloc,
+        &regions,
+        &[&[[0, 0], [1, 0], [1, 1], [0, 1], [0, 0]]],
+    )?;
+    assert!(rt; regions.shapes.len() == 2);
+    is_shape(&rt, &regions.shapes[0], "lake", &[]);
+    is_shape(&rt, &regions.shapes[1], "moor", &[&[&[0]]]);
+    Ok(())
+}

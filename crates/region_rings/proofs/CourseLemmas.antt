@@ -16,7 +16,8 @@ use Rattle.region_rings.specs.declared.spoke.Spoke.{Spoke}
 use Rattle.region_rings.specs.RegionRings.{VisitsNoneTwice, IsRing, is_same_step, step_count}
 use Rattle.region_rings.specs.Spokes.{IsFirstAt}
 use Rattle.region_rings.specs.Ways.{other_end_of}
-use Rattle.region_rings.specs.Courses.{Course, along, onto, cut_at, is_visited, reaching, unwalked, IsOpenAt, steps_of_path, once, IsUnderway}
+use Rattle.region_rings.specs.Courses.{Course, along, onto, cut_at, is_visited, reaching, unwalked, IsOpenAt}
+use Rattle.region_rings.proofs.Underway.{steps_of_path, once, IsUnderway}
 use Rattle.region_rings.proofs.StepLemmas.{steps-push, steps-cut, count-steps, step_of_path, step_up, step_down}
 use Rattle.region_rings.proofs.MarkLemmas.{count-walked}
 use Rattle.region_rings.proofs.SpokeLemmas.{one_number, one_point}

@@ -11,7 +11,8 @@ use Rattle.region_rings.specs.declared.spoke.Spoke.{Spoke}
 use Rattle.region_rings.specs.declared.way.Way.{Way}
 use Rattle.region_rings.specs.Spokes.{spoke, IsEndAt, AreSpokesOf, IsFirstAt}
 use Rattle.region_rings.specs.Ways.{other_end_of, way_at, tail_of}
-use Rattle.region_rings.specs.Courses.{Course, along, beginning, onto, cut_at, is_visited, reaching, unwalked, IsOpenAt, IsNoneOpenAt, IsUnderway, IsAtRest}
+use Rattle.region_rings.specs.Courses.{Course, along, beginning, onto, cut_at, is_visited, reaching, unwalked, IsOpenAt, IsNoneOpenAt, IsAtRest}
+use Rattle.region_rings.proofs.Underway.{IsUnderway}
 use Rattle.region_rings.proofs.CourseLemmas.{along_edge, IsStepping, gone}
 use Rattle.region_rings.proofs.MarkLemmas.{count-walked}
 use Rattle.region_rings.proofs.RestLemmas.{begun, at_rest}

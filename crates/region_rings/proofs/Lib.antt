@@ -1,9 +1,12 @@
-pub mod Sizes
+pub mod Underway
 pub mod SideLemmas
 pub mod StepLemmas
 pub mod MarkLemmas
 pub mod SpokeLemmas
+pub mod TurnLemmas
 pub mod ChoiceLemmas
+pub mod RankLemmas
 pub mod CourseLemmas
 pub mod RestLemmas
 pub mod DrawLemmas
+mod Examples

@@ -11,7 +11,8 @@ use Rattle.plane_edge.proofs.OrderLemmas.{same_points_equal, same_point_itself}
 use Rattle.region_rings.specs.declared.spoke.Spoke.{Spoke}
 use Rattle.region_rings.specs.RegionRings.{IsRing, step_count, AreRingsOf}
 use Rattle.region_rings.specs.Spokes.{IsFirstAt}
-use Rattle.region_rings.specs.Courses.{Course, beginning, unwalked, IsNoneOpenAt, steps_of_path, once, IsUnderway, IsAtRest}
+use Rattle.region_rings.specs.Courses.{Course, beginning, unwalked, IsNoneOpenAt, IsAtRest}
+use Rattle.region_rings.proofs.Underway.{steps_of_path, once, IsUnderway}
 use Rattle.region_rings.proofs.MarkLemmas.{none_left, unwalked-all, unwalked-none}
 use Rattle.region_rings.proofs.SpokeLemmas.{one_number}
 

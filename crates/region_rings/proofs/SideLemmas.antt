@@ -1,12 +1,13 @@
 -- On which side of an edge the region is.
 use Rattle.std.proofs.Common.{◌≡◌, ◌↔◌, ℕ, suc, ◌+◌, ◌<◌, sym, ◌∙◌, ap, subst, Bool, true, false, true≢false, not, refl, IsTrue, List, [], ◌∷◌, ◌++◌, length, take, get_or}
 use Rattle.std.proofs.lemmas.List.{take_more}
+use Rattle.plane_edge.specs.Middle.{middle_of}
 use Rattle.plane_edge.specs.Plane.{IsInside}
 use Rattle.plane_edge.specs.declared.edge.Edge.{Edge}
 use Rattle.plane_edge.specs.declared.spot.Spot.{Spot}
 use Rattle.edge_rows.specs.Beside.{AreCrossedAlike}
 use Rattle.edge_rows.proofs.CrossLemmas.{inside_alike}
-use Rattle.region_rings.specs.Sides.{middle_of, is_level, IsLeftward, AreSides}
+use Rattle.region_rings.specs.Sides.{is_level, IsLeftward, AreSides}
 
 pub level_side : (es : List Edge) (e : Edge) (b : Bool) (s : Spot) → s ≡ middle_of e → is_level e ≡ true → IsTrue b ↔ IsInside es s → IsTrue b ↔ IsLeftward es e
 level_side es e b s q l h = (

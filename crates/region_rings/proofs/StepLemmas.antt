@@ -12,7 +12,7 @@ use Rattle.plane_edge.proofs.EndLemmas.{not_both}
 use Rattle.plane_edge.proofs.EvenLists.{count-append}
 use Rattle.plane_edge.proofs.OrderLemmas.{point_order, point_order_total, below_is_less, same_point_itself}
 use Rattle.region_rings.specs.RegionRings.{step_count, is_same_step}
-use Rattle.region_rings.specs.Courses.{steps_of_path}
+use Rattle.region_rings.proofs.Underway.{steps_of_path}
 
 -- ---- the order of points
 less_of : (o : Ordering) → is_lt o ≡ true → is_lt (ordering_reverse o) ≡ false

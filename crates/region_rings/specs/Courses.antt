@@ -1,15 +1,17 @@
 -- How a walk along edges goes on.
-use Rattle.std.specs.Prelude.{◌≡◌, ℕ, ◌+◌, ◌-◌, ◌%◌, ◌<◌, Bool, true, false, if◌then◌else◌, ◌&&◌, nat_lt, List, [], ◌∷◌, ◌++◌, map, flat_map, length, count_by, take, drop, All, slice_set, slice_index, slice_index_or}
+use Rattle.std.specs.Prelude.{◌≡◌, ℕ, ◌+◌, ◌%◌, Bool, true, false, if◌then◌else◌, ◌&&◌, nat_lt, List, [], ◌∷◌, ◌++◌, map, flat_map, length, count_by, ℤ, take, drop, All, slice_set, slice_index, slice_index_or}
 use Rattle.plane_edge.specs.Edges.{is_same_point}
 use Rattle.plane_edge.specs.Line.{is_end_of}
-use Rattle.plane_edge.specs.Rings.{ends_of, path_from, steps_of_ring}
+use Rattle.plane_edge.specs.Rings.{ends_of, steps_of_ring}
 use Rattle.plane_edge.specs.declared.edge.Edge.{Edge}
 use Rattle.plane_edge.specs.declared.point.Point.{Point}
 use Rattle.region_rings.specs.declared.spoke.Spoke.{Spoke}
-use Rattle.region_rings.specs.RegionRings.{VisitsNoneTwice, IsRing, step_count}
-use Rattle.region_rings.specs.Spokes.{IsEndAt, IsFirstAt}
+use Rattle.region_rings.specs.declared.way.Way.{Way}
+use Rattle.region_rings.specs.RegionRings.{IsRing, step_count}
+use Rattle.region_rings.specs.Spokes.{IsEndAt}
+use Rattle.region_rings.specs.Ways.{way_at, is_taken_before}
 
--- which edges are walked, the path since the last ring was cut off, where the path came to which point, and the rings
+-- which edges are walked, the path that is left once rings are cut off, where the path came to which point, and the rings
 pub record Course : Type 0 where
   pub walked : List Bool
   pub path : List Point
@@ -53,32 +55,14 @@ pub record IsOpenAt (edges : List Edge) (w : Course) (i : ℕ) (p : Point) : Typ
   pub end : IsEndAt edges i p
   pub left : (d : Bool) → slice_index_or w.walked i d ≡ false
 
+-- of the edges at the point that are not walked, none is taken before that one
+abbrev pub IsTakenFirst : List Edge → List Bool → Course → Point → ℤ × ℤ → ℕ → Type 0
+IsTakenFirst edges leftward w p back i =
+    (k : ℕ) (d : Way) → IsOpenAt edges w k p → is_taken_before p back (way_at edges leftward k d) (way_at edges leftward i d) ≡ false
+
 -- no such edge is left at the point
 abbrev pub IsNoneOpenAt : List Edge → Course → Point → Type 0
 IsNoneOpenAt edges w p = (i : ℕ) (d : Bool) → IsEndAt edges i p → slice_index_or w.walked i d ≡ true
-
--- the steps from each point of the path to the next
-abbrev pub steps_of_path : List Point → List (Point × Point)
-steps_of_path [] = []
-steps_of_path (p ∷ ps) = path_from p ps
-
--- 1 where the points are the same, else 0
-abbrev pub once : Point → Point → ℕ
-once p q = (if is_same_point p q then 1 else 0)
-
--- a walk from `start` that stands at `at`. Each edge is a step of a ring, a step of the path or not walked, and only one of these; each point is an end of an even number of
--- the edges not walked, where `start` and `at` count one more each
-pub record IsUnderway (edges : List Edge) (spokes : List Spoke) (w : Course) (start at : Point) : Type 0 where
-  pub marks : length w.walked ≡ length edges
-  pub room : length w.places ≡ length spokes
-  pub rings : All IsRing w.rings
-  pub tally : (s : Point × Point) → step_count s (flat_map steps_of_ring w.rings) + (step_count s (steps_of_path w.path) + step_count s (map ends_of (unwalked edges w.walked))) ≡ step_count s (map ends_of edges)
-  pub even : (p : Point) → (count_by (λ e. is_end_of e p) (unwalked edges w.walked) + (once start p + once at p)) % 2 ≡ 0
-  pub simple : VisitsNoneTwice w.path
-  pub begun : 0 < length w.path
-  pub from : (d : Point) → slice_index_or w.path 0 d ≡ start
-  pub upto : (d : Point) → slice_index_or w.path (length w.path - 1) d ≡ at
-  pub placed : (k n : ℕ) (d : Point) → k < length w.path → IsFirstAt spokes (slice_index_or w.path k d) n → slice_index w.places n ≡ k
 
 -- between two walks: each edge is a step of a ring or not walked, and only one of these
 pub record IsAtRest (edges : List Edge) (spokes : List Spoke) (w : Course) : Type 0 where

@@ -1,14 +1,10 @@
 -- On which side of an edge the region is.
-use Rattle.std.specs.Prelude.{◌≡◌, ◌↔◌, Bool, true, false, List, pos, ◌+ℤ◌, IsTrue}
+use Rattle.std.specs.Prelude.{◌≡◌, ◌↔◌, Bool, true, false, List, IsTrue}
 use Rattle.std.specs.Ordering.{int_eq}
 use Rattle.std.specs.List.{AllZip}
+use Rattle.plane_edge.specs.Middle.{middle_of}
 use Rattle.plane_edge.specs.Plane.{IsInside}
 use Rattle.plane_edge.specs.declared.edge.Edge.{Edge}
-use Rattle.plane_edge.specs.declared.spot.Spot.{Spot}
-
--- the point half way between the ends
-abbrev pub middle_of : Edge → Spot
-middle_of e = record { x = e.low.x +ℤ e.high.x; y = e.low.y +ℤ e.high.y; m = pos 2 }
 
 -- both ends have one height
 abbrev pub is_level : Edge → Bool

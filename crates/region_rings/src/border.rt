@@ -1,9 +1,9 @@
 //! What a walk asks of the edges.
-ghost use Rattle.std.specs.Prelude.{◌≡◌, ◌<◌, ℕ, length, IfSome, IfNone, Contains, true};
+ghost use Rattle.std.specs.Prelude.{◌≡◌, ◌≢◌, ◌<◌, ℕ, length, IfSome, IfNone, Contains, true};
 ghost use Rattle.region_rings.specs.declared.way.Way.{Way as Step};
-ghost use Rattle.region_rings.specs.Courses.{IsOpenAt, IsNoneOpenAt};
+ghost use Rattle.region_rings.specs.Courses.{IsOpenAt, IsNoneOpenAt, IsTakenFirst};
 ghost use Rattle.region_rings.specs.Spokes.{spoke, AreInOrder, IsFirstAt, AreSpokesOf};
-ghost use Rattle.region_rings.specs.Turning.{parts_of};
+ghost use Rattle.region_rings.specs.Turning.{aim, parts_of};
 ghost use Rattle.region_rings.specs.Ways.{way_at, is_taken_before};
 
 use crate::heading::Heading;
@@ -75,9 +75,10 @@ impl Border<'_> {
         requires marks { length walk.now.walked ≡ length self.now.edges.now }
         requires number { IsFirstAt self.now.spokes.items at.now number }
         ensures some { IfSome result (λ edge. IsOpenAt self.now.edges.now walk.now edge at.now) }
+        ensures first { IfSome result (λ edge. at.now ≢ back.now → IsTakenFirst self.now.edges.now self.now.leftward.items walk.now at.now (aim at.now back.now) edge) }
         ensures none { IfNone result (IsNoneOpenAt self.now.edges.now walk.now at.now) }
     {
-        let back = heading(at, back);
+        let way_back = heading(at, back);
         let mut best = None;
         for place in number..self.spokes.len() {
             let spoke = self.spokes[place];
@@ -85,7 +86,7 @@ impl Border<'_> {
                 return best;
             }
             let edge = spoke.edge;
-            if !walk.is_walked(edge) && self.is_better(edge, best, at, &back) {
+            if !walk.is_walked(edge) && self.is_better(edge, best, at, &way_back) {
                 best = Some(edge);
             }
         }

@@ -1,31 +1,11 @@
 //! On which side of each edge the region is.
-ghost use Rattle.std.specs.Prelude.{◌≡◌, ◌↔◌, ◌^◌, ◌≤◌, ◌+ℤ◌, IsTrue, IfOk, unsigned_abs};
-ghost use Rattle.plane_edge.specs.Coordinate.{IsCoordinate};
-ghost use Rattle.region_rings.specs.Sides.{middle_of, is_level, IsLeftward, AreSides};
+ghost use Rattle.std.specs.Prelude.{◌≡◌, ◌↔◌, IsTrue, IfOk};
+ghost use Rattle.region_rings.specs.Sides.{is_level, IsLeftward, AreSides};
 
 use agg_base::NoMemory;
 use edge_rows::EdgeRows;
-use plane_edge::{Edge, Spot};
+use plane_edge::Edge;
 use std::alloc::Global;
-
-/// The sum of two coordinates.
-fn sum(a: i32, b: i32) -> i128
-    requires a_in_range { IsCoordinate a }
-    requires b_in_range { IsCoordinate b }
-    ensures value { result ≡ a +ℤ b }
-    ensures within { unsigned_abs result ≤ 2 ^ 31 }
-{
-    i128::from(a) + i128::from(b)
-}
-
-/// The point half way between the ends of the edge.
-fn middle(edge: &Edge) -> Spot
-    ensures { result ≡ middle_of edge.now }
-{
-    let x = sum(edge.low.x, edge.high.x);
-    let y = sum(edge.low.y, edge.high.y);
-    Spot { x, y, m: 2 }
-}
 
 /// Whether both ends have one height.
 fn is_level(edge: &Edge) -> bool
@@ -39,7 +19,7 @@ fn is_level(edge: &Edge) -> bool
 fn is_leftward(rows: &EdgeRows, edge: &Edge) -> bool
     ensures { IsTrue result ↔ IsLeftward rows.now edge.now }
 {
-    let is_inside = rows.inside(&middle(edge));
+    let is_inside = rows.inside(&edge.middle());
     if is_level(edge) {
         is_inside
     } else {

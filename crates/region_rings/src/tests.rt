@@ -3,8 +3,7 @@ ghost use Rattle.std.specs.Prelude.{◌≤◌, length, IfOk};
 ghost use Rattle.plane_edge.specs.Edges.{HaveEvenEnds, IsRisingEdges};
 
 use super::*;
-use agg_base::Text;
-use plane_edge::{Area, Edge, Point, odd};
+use plane_edge::{Edge, Point, odd_of, steps_of_rings};
 use std::alloc::Global;
 use std::process::Abort;
 use std::test::Fail;
@@ -24,9 +23,7 @@ fn edges_of(rt: &impl Abort, alloc: Global, rings: &[Vec<Point>]) -> Result<Vec<
     ensures even { IfOk result (λ edges. HaveEvenEnds edges.items) }
     ensures few { IfOk result (λ edges. length edges.items ≤ 2097152) }
 {
-    let area = Area::of_rings(alloc, Text::of(alloc, "wood")?, rings)?;
-    let _even = area.steps();
-    let edges = odd(alloc, &area)?;
+    let edges = odd_of(alloc, steps_of_rings(alloc, rings)?)?;
     assert!(rt; edges.len() <= 2_097_152);
     Ok(edges)
 }
@@ -68,6 +65,34 @@ const RIGHT: [[i64; 2]; 3] = [[0, 0], [2, 1], [1, 2]];
 
 const LEFT: [[i64; 2]; 3] = [[0, 0], [-1, 2], [-2, 3]];
 
+/// A block with a notch on its right, and a block that closes the notch: they touch at both its corners.
+const BENT: [[i64; 2]; 8] = [
+    [0, 0],
+    [2, 0],
+    [2, 1],
+    [1, 1],
+    [1, 2],
+    [2, 2],
+    [2, 3],
+    [0, 3],
+];
+
+const BESIDE: [[i64; 2]; 4] = [[2, 1], [3, 1], [3, 2], [2, 2]];
+
+/// A block with a notch on its top, and a block that closes the notch: they touch at both its corners.
+const TUB: [[i64; 2]; 8] = [
+    [0, 0],
+    [3, 0],
+    [3, 2],
+    [2, 2],
+    [2, 1],
+    [1, 1],
+    [1, 2],
+    [0, 2],
+];
+
+const ABOVE: [[i64; 2]; 4] = [[1, 2], [2, 2], [2, 3], [1, 3]];
+
 #[test]
 fn the_region_is_on_the_left(rt: HostRuntime) -> Result<(), Fail> {
     let alloc = rt.alloc();
@@ -83,4 +108,12 @@ fn rings_part_where_they_touch(rt: HostRuntime) -> Result<(), Fail> {
     let alloc = rt.alloc();
     draws_both(&rt, alloc, &SQUARE, &BEYOND)?;
     draws_both(&rt, alloc, &RIGHT, &LEFT)
+}
+
+/// A turn the other way would draw one ring round both blocks, and one round the notch.
+#[test]
+fn rings_that_touch_twice_stay_apart(rt: HostRuntime) -> Result<(), Fail> {
+    let alloc = rt.alloc();
+    draws_both(&rt, alloc, &BENT, &BESIDE)?;
+    draws_both(&rt, alloc, &TUB, &ABOVE)
 }

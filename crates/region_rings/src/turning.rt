@@ -1,9 +1,9 @@
 //! Which of two directions a clockwise turn meets first.
-ghost use Rattle.std.specs.Prelude.{◌≡◌, ◌^◌, ◌≤◌, ◌+ℤ◌, ◌-ℤ◌, ◌*ℤ◌, unsigned_abs};
+ghost use Rattle.std.specs.Prelude.{◌≡◌};
 ghost use Rattle.region_rings.specs.Turning.{parts_of, aim, cross_of, dot_of, is_half_turn_of, is_within_half_turn, is_first_by, is_met_sooner};
 
 use crate::heading::Heading;
-use plane_edge::{Point, gap};
+use plane_edge::{Point, gap, minor, sum_of_products};
 
 /// The direction from one point to another.
 pub fn heading(from: &Point, to: &Point) -> Heading
@@ -12,28 +12,6 @@ pub fn heading(from: &Point, to: &Point) -> Heading
     let x = gap(to.x, from.x);
     let y = gap(to.y, from.y);
     Heading { x, y }
-}
-
-/// `a * b - c * d`, exactly.
-fn minor(a: i128, b: i128, c: i128, d: i128) -> i128
-    requires a_within { unsigned_abs a ≤ 2 ^ 31 }
-    requires b_within { unsigned_abs b ≤ 2 ^ 31 }
-    requires c_within { unsigned_abs c ≤ 2 ^ 31 }
-    requires d_within { unsigned_abs d ≤ 2 ^ 31 }
-    ensures { result ≡ a *ℤ b -ℤ c *ℤ d }
-{
-    a * b - c * d
-}
-
-/// `a * b + c * d`, exactly.
-fn product_sum(a: i128, b: i128, c: i128, d: i128) -> i128
-    requires a_within { unsigned_abs a ≤ 2 ^ 31 }
-    requires b_within { unsigned_abs b ≤ 2 ^ 31 }
-    requires c_within { unsigned_abs c ≤ 2 ^ 31 }
-    requires d_within { unsigned_abs d ≤ 2 ^ 31 }
-    ensures { result ≡ a *ℤ b +ℤ c *ℤ d }
-{
-    a * b + c * d
 }
 
 /// Above 0 where `b` is to the left of `a`, below 0 where it is to the right.
@@ -47,7 +25,7 @@ fn cross(a: &Heading, b: &Heading) -> i128
 fn dot(a: &Heading, b: &Heading) -> i128
     ensures { result ≡ dot_of (parts_of a.now) (parts_of b.now) }
 {
-    product_sum(a.x, b.x, a.y, b.y)
+    sum_of_products(a.x, b.x, a.y, b.y)
 }
 
 /// Whether the turn is to the right, or straight back.

@@ -4,7 +4,7 @@ use plane_edge::Point;
 use std::alloc::Global;
 use std::marker::Model;
 
-/// Which edges are walked, the path since the last ring was cut off, and the rings. Each point has a number; the place at which the path came
+/// Which edges are walked, the path that is left once rings are cut off, and the rings. Each point has a number; the place at which the path came
 /// to a point last is noted under its number.
 #[derive(Drop)]
 pub struct Walk {

@@ -1,7 +1,7 @@
 -- Rings as lists of indexes.
 use Rattle.std.proofs.Common.{◌≡◌, ◌⊎◌, inl, inr, ℕ, ◌+◌, ◌<◌, ◌≤◌, sym, ◌∙◌, ap, subst, arith, ℤ, pos, negsuc, true, false, nat_lt, List, [], ◌∷◌, ◌++◌, length, reverse, get_or, take, drop, map, All, Contains, Vec, Global}
 use Rattle.std.specs.List.{AllZip}
-use Rattle.std.proofs.lemmas.List.{take_more, map_push, reverse-reverse, get_or_read, map-append, take-append-drop, length-append, length-drop, length-map, drop-map, take-map}
+use Rattle.std.proofs.lemmas.List.{take_more, map_push, reverse-reverse, get_or_read, get_or_default, get_or_append_left, get_or-drop, map-append, take-append-drop, length-append, length-drop, length-map, drop-map, take-map}
 use Rattle.std.proofs.lemmas.Bool.Decides.{nat_tests}
 use Rattle.std.proofs.lemmas.List.Elements.{All-append, All-take, All-drop}
 use Rattle.plane_edge.specs.declared.point.Point.{Point}
@@ -44,8 +44,18 @@ pub told_backward : (arcs : List (List Point)) (c : List Point) (i : ℕ) → ge
 told_backward arcs c i h b = ap (λ (ps : List Point). reverse ps) (h ∙ turned-backward c b) ∙ reverse-reverse c
 
 -- ---- from another index on
-pub indexes_on : (arcs : List (List Point)) (ring : List Point) (indexes : List ℤ) (chains : List (List Point)) (at : ℕ) → at < length indexes → All (IsIndex arcs) indexes → map (arc_at arcs) indexes ≡ chains → AreLong chains → IsWalkRound ring chains → AreIndexesOf arcs ring (drop at indexes ++ take at indexes)
-indexes_on arcs ring indexes chains at l r t n w =
+
+-- turned to begin with the least number, the indexes begin with it
+least_first : (indexes : List ℤ) (at : ℕ) → at < length indexes → IsLeastAt indexes (length indexes) at → IsLeastAt (drop at indexes ++ take at indexes) (length (drop at indexes ++ take at indexes)) 0
+least_first indexes at l least = λ k d m.
+    let NoLess : ℤ → Type 0 = λ i. number_of (get_or indexes at d) ≤ number_of i in
+    let all : All NoLess indexes = λ j e n. subst NoLess (get_or_default indexes j d e n) (least j d n) in
+    let same : at + 0 ≡ at = omega arith in
+    let front : get_or (drop at indexes ++ take at indexes) 0 d ≡ get_or indexes at d = get_or_append_left (drop at indexes) (take at indexes) d 0 (omega (arith, length-drop at indexes)) ∙ get_or-drop at indexes 0 d ∙ ap (λ (j : ℕ). get_or indexes j d) same in
+    subst (λ i. number_of i ≤ number_of (get_or (drop at indexes ++ take at indexes) k d)) (sym front) (All-append NoLess (drop at indexes) (take at indexes) (All-drop NoLess at indexes all) (All-take NoLess at indexes all) k d m)
+
+pub indexes_on : (arcs : List (List Point)) (ring : List Point) (indexes : List ℤ) (chains : List (List Point)) (at : ℕ) → at < length indexes → IsLeastAt indexes (length indexes) at → All (IsIndex arcs) indexes → map (arc_at arcs) indexes ≡ chains → AreLong chains → IsWalkRound ring chains → AreIndexesOf arcs ring (drop at indexes ++ take at indexes)
+indexes_on arcs ring indexes chains at l least r t n w =
     let whole : IsWalkRound ring (take at chains ++ drop at chains) = subst (IsWalkRound ring) (sym (take-append-drop at chains)) w in
     let count : length indexes ≡ length chains = sym (length-map indexes (arc_at arcs)) ∙ ap (λ (ps : List (List Point)). length ps) t in
     let on : IsWalkRound ring (drop at chains ++ take at chains) = walk_on ring (take at chains) (drop at chains) (All-drop (λ (p : List Point). 2 ≤ length p) at chains n) (omega (arith, length-drop at chains)) whole in
@@ -58,6 +68,7 @@ indexes_on arcs ring indexes chains at l r t n w =
       some = omega (arith, length-append (drop at indexes) (take at indexes), length-drop at indexes);
       in_range = All-append (IsIndex arcs) (drop at indexes) (take at indexes) (All-drop (IsIndex arcs) at indexes r) (All-take (IsIndex arcs) at indexes r);
       walk = subst (IsWalkRound ring) (sym back) on;
+      first = least_first indexes at l least;
     }
 
 -- ---- the least number

@@ -122,4 +122,5 @@ arcs_of_stored rings arcs ways loops w h = record {
         let step : Contains (steps_of_rings rings) (in_order a.0 a.1.0) = (w a.0 a.1.0).0 a.1.1.0 in
         absurd (n (subst (λ (t : Point × Point). Contains (steps_of_rings rings) t) (sym a.1.1.1) step))
   ]);
+  in_order = record { rising = h.rising; forward = λ k d l e. (h.each k d l).forward e };
 }

@@ -1,11 +1,16 @@
 -- Arcs, which store each step of the rings once, and rings told as lists of arcs.
-use Rattle.std.specs.Prelude.{◌≡◌, ◌+◌, ◌-◌, ◌<◌, ◌≤◌, ℕ, ℤ, pos, negsuc, neg_ℤ, ◌≤ℤ◌, ◌<ℤ◌, Bool, ◌&&◌, Option, Some, List, [], ◌∷◌, ◌++◌, length, take, map, reverse, flat_map, get_or, count_by, All, Contains, slice_get, Vec}
+use Rattle.std.specs.Prelude.{◌≡◌, ◌+◌, ◌-◌, ◌<◌, ◌≤◌, ℕ, ℤ, pos, negsuc, neg_ℤ, ◌≤ℤ◌, ◌<ℤ◌, Bool, false, ◌&&◌, Option, Some, List, [], ◌∷◌, ◌++◌, length, take, map, reverse, flat_map, get_or, count_by, All, Contains, slice_get, Vec}
+use Rattle.std.specs.Cmp.Lexicographic.{slice_cmp}
 use Rattle.std.specs.List.{AllZip}
+use Rattle.std.specs.List.Sorted.{IsStrictlySortedBy}
 use Rattle.std.specs.declared.alloc.Global.{Global}
 use Rattle.plane_edge.specs.Edges.{is_same_point}
 use Rattle.plane_edge.specs.Rings.{path_from}
 use Rattle.plane_edge.specs.declared.point.Point.{Point}
+use Rattle.ring_arcs.specs.Numbers.{IsLeastAt}
 use Rattle.ring_arcs.specs.Rings.{steps_of_rings}
+use Rattle.ring_arcs.specs.Turning.{is_backward}
+use Rattle.ring_arcs.specs.Ways.{point_order}
 
 -- the lists that vectors hold
 abbrev pub lists_of : {X : Type 0} → List (Vec X Global) → List (List X)
@@ -28,12 +33,18 @@ is_same_step d e = is_same_point d.0 e.0 && is_same_point d.1 e.1
 abbrev pub times : Point × Point → List (Point × Point) → ℕ
 times d steps = count_by (λ e. is_same_step d e) steps
 
--- the arcs store the steps of the rings: an arc has two points or more and no point twice in a row; a step of a ring stands in all arcs together just once, and any other step never
+-- the arcs are in the order of their lists of points, none of them twice, and none of them goes backward
+pub record AreArcsInOrder (arcs : List (List Point)) : Type 0 where
+  pub rising : IsStrictlySortedBy (slice_cmp point_order) arcs
+  pub forward : All (λ arc. (d : Point) → is_backward d arc ≡ false) arcs
+
+-- the arcs store the steps of the rings: an arc has two points or more and no point twice in a row; a step of a ring stands in all arcs together just once, and any other step never. The arcs are in order
 pub record AreArcsOf (rings arcs : List (List Point)) : Type 0 where
   pub long : All (λ arc. 2 ≤ length arc) arcs
   pub stepping : All (λ arc. length (steps_of_arc arc) + 1 ≡ length arc) arcs
   pub once : (d : Point × Point) → Contains (steps_of_rings rings) d → times d (steps_of_arcs arcs) ≡ 1
   pub never : (d : Point × Point) → ¬ Contains (steps_of_rings rings) d → times d (steps_of_arcs arcs) ≡ 0
+  pub in_order : AreArcsInOrder arcs
 
 -- the number tells an arc: i and -i - 1 both tell arc i
 pub record IsIndex (arcs : List (List Point)) (index : ℤ) : Type 0 where
@@ -73,11 +84,12 @@ pub record IsWalkRound (ring : List Point) (paths : List (List Point)) : Type 0 
   pub joined : AreJoined (Some begin) paths (Some begin)
   pub met : IsTurnOf ring (flat_map without_last paths)
 
--- the indexes tell arcs that go round the ring
+-- the indexes tell arcs that go round the ring, and begin with the arc of least number
 pub record AreIndexesOf (arcs : List (List Point)) (ring : List Point) (indexes : List ℤ) : Type 0 where
   pub some : 0 < length indexes
   pub in_range : All (IsIndex arcs) indexes
   pub walk : IsWalkRound ring (map (arc_at arcs) indexes)
+  pub first : IsLeastAt indexes (length indexes) 0
 
 -- one list of indexes for each ring, in the order of the rings
 abbrev pub AreIndexed : List (List Point) → List (List Point) → List (List ℤ) → Type 0

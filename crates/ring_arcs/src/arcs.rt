@@ -23,7 +23,7 @@ use std::alloc::Global;
 pub struct Arcs {
     /// Each arc as its points, two or more, in the order of the lists of points.
     pub arcs: Vec<Vec<Point>>,
-    /// Of each ring the arcs round it: i is arc i in its direction, -i - 1 is arc i backwards.
+    /// Of each ring the indexes of the arcs round it, as in TopoJSON 1.0: i is arc i in its direction, -i - 1 is arc i backwards.
     pub rings: Vec<Vec<i64>>,
 }
 

@@ -84,6 +84,12 @@ fn expect(
 }
 
 #[test]
+fn no_rings_have_no_arcs(rt: HostRuntime) -> Result<(), Fail> {
+    let alloc = rt.alloc();
+    expect(&rt, alloc, &[], &[], &[])
+}
+
+#[test]
 fn a_ring_without_nodes_is_one_arc(rt: HostRuntime) -> Result<(), Fail> {
     let alloc = rt.alloc();
     let arc = [

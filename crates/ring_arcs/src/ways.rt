@@ -6,8 +6,8 @@ ghost use Rattle.ring_arcs.specs.RingArcs.{lists_of};
 ghost use Rattle.ring_arcs.specs.Rings.{steps_of_rings};
 ghost use Rattle.ring_arcs.specs.Ways.{both_ways, way_order, AreWaysOf};
 
-use agg_base::{NoMemory, Text};
-use plane_edge::{Area, Edge, Point};
+use agg_base::NoMemory;
+use plane_edge::{Edge, Point, steps_of_rings};
 use std::alloc::Global;
 
 /// Both ways along each edge.
@@ -36,8 +36,8 @@ pub fn ways_of(alloc: Global, rings: &[Vec<Point>]) -> Result<Vec<(Point, Point)
     ensures rising { IfOk result (λ ways. IsStrictlySortedBy way_order ways.items) }
     ensures exact { IfOk result (λ ways. AreWaysOf (steps_of_rings (lists_of rings.now)) ways.items) }
 {
-    let area = Area::of_rings(alloc, Text::of(alloc, "")?, rings)?;
-    let mut ways = both_ways(alloc, area.steps())?;
+    let steps = steps_of_rings(alloc, rings)?;
+    let mut ways = both_ways(alloc, &steps)?;
     sort_distinct(&mut ways);
     Ok(ways)
 }

@@ -4,4 +4,4 @@ use Rattle.arc_dissolve.proofs.shell.rows_of.Goals as goal
 
 pub returns : goal.returns
 returns c =
-    record { edges = c.in_ok-edges.edges.items; steps = c.in_ok-edges.ensures; alike = subst (λ es. AreCrossedAlike c.in_ok-rows.rows es) c.deref.ensures.value c.in_ok-rows.ensures }
+    record { edges = c.in_ok-steps.steps.items; steps = c.in_ok-steps.ensures; alike = subst (λ es. AreCrossedAlike c.in_ok-rows.rows es) c.deref.ensures.value c.in_ok-rows.ensures }

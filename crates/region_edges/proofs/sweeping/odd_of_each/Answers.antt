@@ -9,10 +9,10 @@ pub loop-list-preserved : goal.loop-list-preserved
 loop-list-preserved c =
     let done : List (Vec Edge Global) = c.loop-list.yielded in
     let list : Vec Edge Global = c.in-Some.list in
-    let odd : Vec Edge Global = c.in_ok-odd_edges.field-0 in
+    let odd : Vec Edge Global = c.in_ok-odd_of.field-0 in
     let odds : List (Vec Edge Global) = c.loop-list.odds.items in
     let left : List (Vec Edge Global) = c.next.new.self.rest.items in
-    let more = one_swept (lists done) (lists odds) list.items odd.items c.in_ok-odd_edges.ensures.odd c.in_ok-odd_edges.ensures.short c.loop-list.invariant.swept in
+    let more = one_swept (lists done) (lists odds) list.items odd.items c.in_ok-odd_of.ensures.odd c.in_ok-odd_of.ensures.short c.loop-list.invariant.swept in
     record {
       rest = append_assoc done (list ∷ []) left ∙ ap (λ (xs : List (Vec Edge Global)). done ++ xs) (sym c.in-Some.ensures.steps.0) ∙ c.loop-list.invariant.rest;
       swept =

@@ -1,6 +1,6 @@
 use Rattle.std.proofs.Common.{◌≡◌, ◌<◌, ℤ, sym, subst, List, length, map, All, Vec, Global}
 use Rattle.plane_edge.specs.declared.point.Point.{Point}
-use Rattle.ring_arcs.specs.Numbers.{IsStoredIn}
+use Rattle.ring_arcs.specs.Numbers.{IsLeastAt, IsStoredIn}
 use Rattle.ring_arcs.specs.RingArcs.{lists_of, arc_at, AreIndexesOf}
 use Rattle.ring_arcs.proofs.Counts.{all_from_map}
 use Rattle.ring_arcs.proofs.GatherLemmas.{chains_long}
@@ -30,5 +30,6 @@ returns c =
     let at = c.least_at-least.result in
     let told = subst (λ (vs : List (Vec Point Global)). map (arc_at arcs) indexes ≡ lists_of vs) c.deref.ensures.value c.in_ok-indexes.ensures.told in
     let within = subst (λ (is : List ℤ). at < length is) c.deref-2.ensures.value c.least_at-least.ensures.within in
+    let least = subst (λ (is : List ℤ). IsLeastAt is (length is) at) c.deref-2.ensures.value c.least_at-least.ensures.least in
     let long = chains_long c.args.breaks.now.ways.items c.args.breaks.now.loops.items c.args.ring.now chains c.in_ok-chains.ensures in
-    subst (AreIndexesOf arcs c.args.ring.now) (sym c.rotate_left.ensures.items) (indexes_on arcs c.args.ring.now indexes chains at within c.in_ok-indexes.ensures.in_range told long c.in_ok-chains.ensures.walk)
+    subst (AreIndexesOf arcs c.args.ring.now) (sym c.rotate_left.ensures.items) (indexes_on arcs c.args.ring.now indexes chains at within least c.in_ok-indexes.ensures.in_range told long c.in_ok-chains.ensures.walk)
