@@ -1,28 +1,51 @@
 -- Worked topologies.
-use Rattle.std.proofs.Common.{◌≡◌, ℕ, ◌<◌, Bool, true, false, List, [], ◌∷◌, ◌++◌, refl, append-nil, sym, arith, lit<}
-use Rattle.std.specs.Prelude.{codes, Some, ℤ, pos, negsuc, ◌+ℤ◌}
-use Rattle.std.specs.Str.Parse.{IsNumeral}
-use Rattle.std.proofs.lemmas.Int.{ints}
-use Rattle.agg_base.specs.Numbers.{SpellsWhole, minus_text, number_of}
-use Rattle.json_text.specs.Tree.{Json, Str, Number, array, object}
-use Rattle.plane_edge.specs.Coordinate.{IsCoordinate}
+use Rattle.std.proofs.Common.{◌≡◌, ℕ, true, false, List, [], ◌∷◌, refl, ap, get_or, arith, lit<}
+use Rattle.std.specs.Prelude.{codes, None, Some, pos, negsuc}
+use Rattle.agg_base.proofs.WholeText.{spells, sign_is}
+use Rattle.json_text.specs.Tree.{Json, Null, Str, Number, array, object, member_of}
 use Rattle.plane_edge.specs.declared.point.Point.{Point}
 use Rattle.plane_edge.specs.Rings.{Outline}
 use Rattle.plane_edge.specs.declared.frame.Frame.TheVariants.{Plain, Scaled}
-use Rattle.topo_reader.specs.Arcs.{SpellsPosition, SpellsPoint, SpellsArc}
+use Rattle.topo_reader.specs.Arcs.{SpellsArc}
 use Rattle.topo_reader.specs.Rings.{SpellsRing, polygon}
-use Rattle.topo_reader.specs.Topology.{SpellsTopology, collection, by_text}
+use Rattle.topo_reader.specs.Topology.{SpellsClass, IsPicked, SpellsTopology, collection, alone, by_text, by_number}
+use Rattle.topo_reader.proofs.Pieces.{geometries, topology, only, whole, plainly, nought, one, two, minus_one, minus_two, limit, position, at, point, p, q, r, u, from}
+use Rattle.topo_reader.proofs.Values.{text_in, value_or}
 
-abbrev geometries : List Json → Json
-geometries places = object ((codes "type", Str (codes "GeometryCollection")) ∷ (codes "geometries", array places) ∷ [])
+-- ---- class texts
 
-abbrev empty : Json
-empty = object ((codes "type", Str (codes "Topology")) ∷ (codes "objects", object ((codes "t", geometries []) ∷ [])) ∷ (codes "arcs", array []) ∷ [])
+-- 7.0 is class 7
+seven : SpellsClass (Number (codes "7.0")) (codes "7")
+seven =
+    by_number (codes "7.0") (pos 7) refl (record { front = codes "7"; zeros = 1; number = spells (codes "7") (codes "7") refl (lit< tt) refl; parts = refl })
+    (record { sfits = omega arith })
+    (plainly (codes "7") (sign_is (codes "7") (pos 7) (spells (codes "7") (codes "7") refl (lit< tt) refl)) (λ (never : 55 ≡ 48). absurd (omega arith)) (record { sfits = omega arith }))
+
+-- -0 is class 0
+minus_nought : SpellsClass (Number (codes "-0")) (codes "0")
+minus_nought =
+    by_number (codes "-0") (pos 0) refl (whole (codes "-0") (lit< tt) refl) (record { sfits = omega arith })
+    (plainly (codes "0") (sign_is (codes "0") (pos 0) (spells (codes "0") (codes "0") refl (lit< tt) refl)) (λ first. refl) (record { sfits = omega arith }))
+
+-- the greatest number of 64 bits
+greatest : SpellsClass (Number (codes "9223372036854775807")) (codes "9223372036854775807")
+greatest =
+    let spelled = spells (codes "9223372036854775807") (codes "9223372036854775807") refl (lit< tt) refl in
+    by_number (codes "9223372036854775807") (pos 9223372036854775807) refl (whole (codes "9223372036854775807") (lit< tt) refl) (record { sfits = omega arith })
+    (plainly (codes "9223372036854775807") (sign_is (codes "9223372036854775807") (pos 9223372036854775807) spelled) (λ (never : 57 ≡ 48). absurd (omega arith)) (record { sfits = omega arith }))
+
+-- ---- which object is read
+
+-- of members of one name the last is the object
+last_of_a_name : (x y : Json) → IsPicked (object ((codes "a", x) ∷ (codes "a", y) ∷ [])) None y
+last_of_a_name x y = (codes "a", ((codes "a", x) ∷ (codes "a", y) ∷ [], refl, (refl, (refl, tt))), refl)
+
+-- ---- no area
 
 -- no geometry, no area
-no_area : SpellsTopology empty (codes "class") (Some (codes "t")) (record { areas = []; passed = 0; frame = Plain })
+no_area : SpellsTopology (topology (only (geometries [])) []) (codes "class") (Some (codes "t")) (record { areas = []; passed = 0; frame = Plain })
 no_area = record {
-  objects = object ((codes "t", geometries []) ∷ []);
+  objects = only (geometries []);
   picked = geometries [];
   places = [];
   parts = [];
@@ -40,72 +63,112 @@ no_area = record {
   few_steps = omega arith;
 }
 
-whole : (minus : Bool) (digits : List ℕ) → IsNumeral 10 digits → SpellsWhole (minus_text minus ++ digits) (number_of minus digits)
-whole minus digits numeral = record {
-  front = minus_text minus ++ digits;
-  zeros = 0;
-  number = record { minus = minus; digits = digits; numeral = numeral; parts = refl; value = refl };
-  parts = sym (append-nil (minus_text minus ++ digits));
+-- a geometry that is null, and one whose type is
+abbrev nulls : List Json
+nulls = Null ∷ object ((codes "type", Null) ∷ []) ∷ []
+
+-- both are passed over and counted
+two_passed : SpellsTopology (topology (only (geometries nulls)) []) (codes "class") (Some (codes "t")) (record { areas = []; passed = 2; frame = Plain })
+two_passed = record {
+  objects = only (geometries nulls);
+  picked = geometries nulls;
+  places = nulls;
+  parts = [];
+  arcs = [];
+  type_is = refl;
+  frame_is = refl;
+  objects_are = refl;
+  picked_is = refl;
+  parts_are = refl;
+  arcs_are = tt;
+  places_are = collection refl refl;
+  areas_are = tt;
+  passed_is = refl;
+  few_areas = omega arith;
+  few_steps = omega arith;
 }
 
-nought : SpellsWhole (codes "0") (pos 0)
-nought = whole false (codes "0") (lit< tt, (lit< tt, tt))
+-- ---- arcs and rings
 
-two : SpellsWhole (codes "2") (pos 2)
-two = whole false (codes "2") (lit< tt, (lit< tt, tt))
+-- the limit is on the sums: a step back from the greatest coordinate is taken
+back_from_limit : SpellsArc true (array (position (codes "1073741824") (codes "0") ∷ position (codes "-1") (codes "0") ∷ [])) (point 1073741824 0 (omega arith) (omega arith) ∷ point 1073741823 0 (omega arith) (omega arith) ∷ [])
+back_from_limit = record {
+  positions = position (codes "1073741824") (codes "0") ∷ position (codes "-1") (codes "0") ∷ [];
+  list = refl;
+  long = omega arith;
+  points = (
+    from (pos 0) (pos 0) _ (point 1073741824 0 (omega arith) (omega arith)) _ _ (at _ _ _ _ limit nought) refl refl,
+    (from (pos 1073741824) (pos 0) _ (point 1073741823 0 (omega arith) (omega arith)) _ _ (at _ _ _ _ minus_one nought) refl refl, tt),
+  );
+}
 
-minus_one : SpellsWhole (codes "-1") (negsuc 0)
-minus_one = whole true (codes "1") (lit< tt, (lit< tt, tt))
+-- without a transform the same point of the plane is told by its own coordinates
+after_limit : SpellsArc false (array (position (codes "1073741824") (codes "0") ∷ position (codes "1") (codes "0") ∷ [])) (point 1073741824 0 (omega arith) (omega arith) ∷ point 1 0 (omega arith) (omega arith) ∷ [])
+after_limit = record {
+  positions = position (codes "1073741824") (codes "0") ∷ position (codes "1") (codes "0") ∷ [];
+  list = refl;
+  long = omega arith;
+  points = (
+    from (pos 0) (pos 0) _ (point 1073741824 0 (omega arith) (omega arith)) _ _ (at _ _ _ _ limit nought) refl refl,
+    (from (pos 0) (pos 0) _ (point 1 0 (omega arith) (omega arith)) _ _ (at _ _ _ _ one nought) refl refl, tt),
+  );
+}
 
-minus_two : SpellsWhole (codes "-2") (negsuc 1)
-minus_two = whole true (codes "2") (lit< tt, (lit< tt, tt))
+-- two arcs that join and close
+two_arcs : SpellsRing ((p ∷ q ∷ []) ∷ (q ∷ r ∷ p ∷ []) ∷ []) (array (Number (codes "0") ∷ Number (codes "1") ∷ [])) (p ∷ q ∷ r ∷ p ∷ [])
+two_arcs = record {
+  indexes = Number (codes "0") ∷ Number (codes "1") ∷ [];
+  paths = (p ∷ q ∷ []) ∷ (q ∷ r ∷ p ∷ []) ∷ [];
+  begin = p;
+  list = refl;
+  some = omega arith;
+  told = (
+    record { number = codes "0"; index = pos 0; is = refl; whole = nought; told = refl },
+    (record { number = codes "1"; index = pos 1; is = refl; whole = one; told = refl }, tt),
+  );
+  closed = (refl, (refl, refl));
+  ring_is = refl;
+}
 
-abbrev position : List ℕ → List ℕ → Json
-position x y = array (Number x ∷ Number y ∷ [])
+-- ---- one area
 
-at : (x y : List ℕ) (m n : ℤ) → SpellsWhole x m → SpellsWhole y n → SpellsPosition (position x y) m n
-at x y m n first second = record { first = x; second = y; more = []; list = refl; x_is = first; y_is = second }
+-- properties with the class a
+abbrev class_a : Json
+class_a = object ((codes "class", Str (codes "a")) ∷ [])
 
--- from the origin to (2, 0), up to (2, 2), and back to the origin
+-- a polygon of one ring of one index
+abbrev square : List ℕ → Json
+square index = object ((codes "type", Str (codes "Polygon")) ∷ (codes "properties", class_a) ∷ (codes "arcs", array (array (Number index ∷ []) ∷ [])) ∷ [])
+
+-- from the origin up, to the right, down, and back
 abbrev positions : List Json
-positions = position (codes "0") (codes "0") ∷ position (codes "2") (codes "0") ∷ position (codes "0") (codes "2") ∷ position (codes "-2") (codes "-2") ∷ []
-
--- the arc backwards
-abbrev triangle : Json
-triangle = object ((codes "type", Str (codes "Polygon")) ∷ (codes "properties", object ((codes "class", Str (codes "a")) ∷ [])) ∷ (codes "arcs", array (array (Number (codes "-1") ∷ []) ∷ [])) ∷ [])
+positions =
+    position (codes "0") (codes "0") ∷ position (codes "0") (codes "2") ∷ position (codes "2") (codes "0") ∷ position (codes "0") (codes "-2") ∷ position (codes "-2") (codes "0") ∷ []
 
 abbrev transform : Json
-transform = object ((codes "scale", array (Number (codes "0.5") ∷ Number (codes "0.5") ∷ [])) ∷ (codes "translate", array (Number (codes "-180") ∷ Number (codes "0") ∷ [])) ∷ [])
+transform = object (
+    (codes "scale", array (Number (codes "0.0036000360003600037") ∷ Number (codes "0.0017361") ∷ []))
+    ∷ (codes "translate", array (Number (codes "-180") ∷ Number (codes "-85.60903777459771") ∷ []))
+    ∷ []
+    )
 
-abbrev one : Json
-one =
+abbrev scaled : Json
+scaled =
     object (
     (codes "type", Str (codes "Topology"))
     ∷ (codes "transform", transform)
-    ∷ (codes "objects", object ((codes "t", geometries (triangle ∷ [])) ∷ []))
+    ∷ (codes "objects", only (geometries (square (codes "-1") ∷ [])))
     ∷ (codes "arcs", array (array positions ∷ []))
     ∷ []
     )
 
-small : (n : ℕ) → n < 3 → IsCoordinate (pos n)
-small n few = record { least = omega (arith, ints); most = omega (arith, ints) }
+abbrev round : List Point
+round = p ∷ u ∷ r ∷ q ∷ p ∷ []
 
-abbrev point : (x y : ℕ) → x < 3 → y < 3 → Point
-point x y few low = record { y = pos y; x = pos x; y_in_range = small y low; x_in_range = small x few }
+abbrev round_back : List Point
+round_back = p ∷ q ∷ r ∷ u ∷ p ∷ []
 
-abbrev p : Point
-p = point 0 0 (lit< tt) (lit< tt)
-
-abbrev q : Point
-q = point 2 0 (lit< tt) (lit< tt)
-
-abbrev r : Point
-r = point 2 2 (lit< tt) (lit< tt)
-
-from : (x y : ℤ) (tree : Json) (t : Point) (dx dy : ℤ) → SpellsPosition tree dx dy → t.x ≡ x +ℤ dx → t.y ≡ y +ℤ dy → SpellsPoint x y tree t
-from x y tree t dx dy position x_is y_is = record { dx = dx; dy = dy; position = position; x_is = x_is; y_is = y_is }
-
-the_arc : SpellsArc true (array positions) (p ∷ q ∷ r ∷ p ∷ [])
+the_arc : SpellsArc true (array positions) round
 the_arc = record {
   positions = positions;
   list = refl;
@@ -113,19 +176,22 @@ the_arc = record {
   points = (
     from (pos 0) (pos 0) _ p _ _ (at _ _ _ _ nought nought) refl refl,
     (
-      from (pos 0) (pos 0) _ q _ _ (at _ _ _ _ two nought) refl refl,
+      from (pos 0) (pos 0) _ u _ _ (at _ _ _ _ nought two) refl refl,
       (
-        from (pos 2) (pos 0) _ r _ _ (at _ _ _ _ nought two) refl refl,
-        (from (pos 2) (pos 2) _ p _ _ (at _ _ _ _ minus_two minus_two) refl refl, tt),
+        from (pos 0) (pos 2) _ r _ _ (at _ _ _ _ two nought) refl refl,
+        (
+          from (pos 2) (pos 2) _ q _ _ (at _ _ _ _ nought minus_two) refl refl,
+          (from (pos 2) (pos 0) _ p _ _ (at _ _ _ _ minus_two nought) refl refl, tt),
+        ),
       ),
     ),
   );
 }
 
-the_ring : SpellsRing ((p ∷ q ∷ r ∷ p ∷ []) ∷ []) (array (Number (codes "-1") ∷ [])) (p ∷ r ∷ q ∷ p ∷ [])
-the_ring = record {
+backwards : SpellsRing (round ∷ []) (array (Number (codes "-1") ∷ [])) round_back
+backwards = record {
   indexes = Number (codes "-1") ∷ [];
-  paths = (p ∷ r ∷ q ∷ p ∷ []) ∷ [];
+  paths = round_back ∷ [];
   begin = p;
   list = refl;
   some = omega arith;
@@ -137,17 +203,26 @@ the_ring = record {
 abbrev area : Outline
 area = record {
   class = codes "a";
-  steps = record { low = p; high = r; rising = refl } ∷ record { low = q; high = r; rising = refl } ∷ record { low = p; high = q; rising = refl } ∷ [];
+  steps =
+      record { low = p; high = q; rising = refl }
+      ∷ record { low = q; high = r; rising = refl }
+      ∷ record { low = u; high = r; rising = refl }
+      ∷ record { low = p; high = u; rising = refl }
+      ∷ [];
 }
 
--- a triangle of three steps, told by the arc backwards
-one_area : SpellsTopology one (codes "class") (Some (codes "t")) (record { areas = area ∷ []; passed = 0; frame = Scaled (codes "0.5") (codes "0.5") (codes "-180") (codes "0") })
+-- a square of four steps, told by the arc backwards; the frame keeps its characters
+one_area : SpellsTopology scaled (codes "class") (Some (codes "t")) (record {
+  areas = area ∷ [];
+  passed = 0;
+  frame = Scaled (codes "0.0036000360003600037") (codes "0.0017361") (codes "-180") (codes "-85.60903777459771");
+})
 one_area = record {
-  objects = object ((codes "t", geometries (triangle ∷ [])) ∷ []);
-  picked = geometries (triangle ∷ []);
-  places = triangle ∷ [];
+  objects = only (geometries (square (codes "-1") ∷ []));
+  picked = geometries (square (codes "-1") ∷ []);
+  places = square (codes "-1") ∷ [];
   parts = array positions ∷ [];
-  arcs = (p ∷ q ∷ r ∷ p ∷ []) ∷ [];
+  arcs = round ∷ [];
   type_is = refl;
   frame_is = (transform, refl, record { scale = refl; translate = refl });
   objects_are = refl;
@@ -157,13 +232,89 @@ one_area = record {
   places_are = collection refl refl;
   areas_are = (
     record {
-      properties = object ((codes "class", Str (codes "a")) ∷ []);
+      properties = class_a;
       value = Str (codes "a");
-      rings = (p ∷ r ∷ q ∷ p ∷ []) ∷ [];
+      rings = round_back ∷ [];
       properties_are = refl;
       value_is = refl;
       class_is = by_text refl (omega arith) (omega arith);
-      rings_are = polygon (array (array (Number (codes "-1") ∷ []) ∷ [])) refl refl (record { parts = array (Number (codes "-1") ∷ []) ∷ []; list = refl; each = (the_ring, tt) });
+      rings_are = polygon (array (array (Number (codes "-1") ∷ []) ∷ [])) refl refl (record { parts = array (Number (codes "-1") ∷ []) ∷ []; list = refl; each = (backwards, tt) });
+      steps_are = refl;
+    },
+    tt,
+  );
+  passed_is = refl;
+  few_areas = omega arith;
+  few_steps = omega arith;
+}
+
+-- ---- an object that is a polygon itself
+
+abbrev corners : List Json
+corners = position (codes "0") (codes "0") ∷ position (codes "2") (codes "0") ∷ position (codes "2") (codes "2") ∷ position (codes "0") (codes "0") ∷ []
+
+corner_arc : SpellsArc false (array corners) (p ∷ q ∷ r ∷ p ∷ [])
+corner_arc = record {
+  positions = corners;
+  list = refl;
+  long = omega arith;
+  points = (
+    from (pos 0) (pos 0) _ p _ _ (at _ _ _ _ nought nought) refl refl,
+    (
+      from (pos 0) (pos 0) _ q _ _ (at _ _ _ _ two nought) refl refl,
+      (
+        from (pos 0) (pos 0) _ r _ _ (at _ _ _ _ two two) refl refl,
+        (from (pos 0) (pos 0) _ p _ _ (at _ _ _ _ nought nought) refl refl, tt),
+      ),
+    ),
+  );
+}
+
+corner_ring : SpellsRing ((p ∷ q ∷ r ∷ p ∷ []) ∷ []) (array (Number (codes "0") ∷ [])) (p ∷ q ∷ r ∷ p ∷ [])
+corner_ring = record {
+  indexes = Number (codes "0") ∷ [];
+  paths = (p ∷ q ∷ r ∷ p ∷ []) ∷ [];
+  begin = p;
+  list = refl;
+  some = omega arith;
+  told = (record { number = codes "0"; index = pos 0; is = refl; whole = nought; told = refl }, tt);
+  closed = (refl, refl);
+  ring_is = refl;
+}
+
+abbrev triangle : Outline
+triangle = record {
+  class = codes "a";
+  steps = record { low = p; high = q; rising = refl } ∷ record { low = q; high = r; rising = refl } ∷ record { low = p; high = r; rising = refl } ∷ [];
+}
+
+no_collection : ¬ (member_of (square (codes "0")) (codes "type") ≡ Some (Str (codes "GeometryCollection")))
+no_collection same = let never : ◌≡◌ {A = ℕ} 80 71 = ap (λ type. get_or (text_in (value_or Null type)) 0 0) same in omega arith
+
+-- it is place 0
+polygon_alone : SpellsTopology (topology (only (square (codes "0"))) (array corners ∷ [])) (codes "class") (Some (codes "t")) (record { areas = triangle ∷ []; passed = 0; frame = Plain })
+polygon_alone = record {
+  objects = only (square (codes "0"));
+  picked = square (codes "0");
+  places = square (codes "0") ∷ [];
+  parts = array corners ∷ [];
+  arcs = (p ∷ q ∷ r ∷ p ∷ []) ∷ [];
+  type_is = refl;
+  frame_is = refl;
+  objects_are = refl;
+  picked_is = refl;
+  parts_are = refl;
+  arcs_are = (corner_arc, tt);
+  places_are = alone no_collection refl;
+  areas_are = (
+    record {
+      properties = class_a;
+      value = Str (codes "a");
+      rings = (p ∷ q ∷ r ∷ p ∷ []) ∷ [];
+      properties_are = refl;
+      value_is = refl;
+      class_is = by_text refl (omega arith) (omega arith);
+      rings_are = polygon (array (array (Number (codes "0") ∷ []) ∷ [])) refl refl (record { parts = array (Number (codes "0") ∷ []) ∷ []; list = refl; each = (corner_ring, tt) });
       steps_are = refl;
     },
     tt,

@@ -1,1 +1,5 @@
+pub mod Values
+pub mod OneLayer
+mod Pieces
 mod Examples
+mod Refused

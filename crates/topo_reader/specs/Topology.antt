@@ -79,3 +79,7 @@ pub record SpellsTopology (tree : Json) (class : List ℕ) (named : Option (List
   pub passed_is : layer.passed ≡ count_by is_passed places
   pub few_areas : length layer.areas ≤ 65536
   pub few_steps : step_count layer.areas ≤ 2097152
+
+-- a value spells one map at most
+abbrev pub OneLayer : Type 0
+OneLayer = (tree : Json) (class : List ℕ) (named : Option (List ℕ)) (l m : Layer) → SpellsTopology tree class named l → SpellsTopology tree class named m → l ≡ m

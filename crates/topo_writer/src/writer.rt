@@ -61,7 +61,7 @@ fn push_transform(out: &mut Vec<u8>, frame: &Frame) -> Result<(), NoMemory>
     }
 }
 
-/// The text of a map, and that the class texts are UTF-8.
+/// The bytes of a map: its transform, its shapes in order, and its arcs.
 pub(crate) fn written(alloc: Global, regions: &Regions, frame: &Frame) -> Result<Vec<u8>, NoMemory>
     ensures layout { IfOk result (λ bytes. bytes.items ≡ map_text regions.now frame.now) }
     ensures utf8 { OnOk result (All (λ figure. IsUtf8 figure.class) regions.now.shapes) }
@@ -80,8 +80,9 @@ pub(crate) fn written(alloc: Global, regions: &Regions, frame: &Frame) -> Result
     Ok(out)
 }
 
-/// The text of a map as a topology of TopoJSON, without white space and ended by a line feed. Its object `regions` has
-/// the shapes in order, each with its number as `id` and its class text as the property `class`.
+/// The text of a map as a topology of TopoJSON 1.0, without white space and ended by a line feed. Its object `regions`
+/// has the shapes in order, each with its number as `id` and its class text as the property `class`. Its one refusal is
+/// want of memory.
 ///
 /// With a scaled frame each position of an arc but the first is relative to the one before, and the frame's texts
 /// stand as the transform. With a plain frame positions are absolute. In a class text each quote and each backslash
