@@ -18,30 +18,36 @@ use Rattle.generalise_core.specs.declared.status.Status.{Status}
 use Rattle.generalise_core.specs.declared.status.Status.TheVariants as status
 use Rattle.generalise_core.proofs.Exclusions.{stopped_refused}
 
-pub heard_usage : (files : Option Files) (before after : Option (List ℕ)) (words : List (List ℕ))
-    → ((r : Request) → ¬ Spells words r) → IsPartlySpoken before after usage_line → IsHeard files before after words
-heard_usage files before after words never part = inr (usage_line, usage never, part)
+pub heard_usage : (files : Option Files) (before after : Option (List ℕ)) (words : List (List ℕ)) (had has : ℕ) (missed : List ℕ)
+    → ((r : Request) → ¬ Spells words r) → IsPartlySpoken before after usage_line → IsHeard files before after words had has missed
+heard_usage files before after words had has missed never part = inr (usage_line, usage never, part)
 
 -- the line of a run that is stopped is due
 stopped_line : (files : Option Files) (words : List (List ℕ)) (r : Request) (had has : ℕ) (missed : List ℕ) (why : Stop)
-    → Spells words r → IsStopped files r had has missed why → IsDueLine files words (line_of why)
+    → Spells words r → IsStopped files r had has missed why → IsDueLine files words had has missed (line_of why)
 stopped_line files words r had has missed stop.Usage spelled is = absurd is
-stopped_line files words r had has missed stop.MapMissed spelled is = map_missed r spelled
-stopped_line files words r had has missed stop.TableMissed spelled is = table_missed r spelled
+stopped_line files words r had has missed stop.MapMissed spelled is = map_missed r spelled is
+stopped_line files words r had has missed stop.TableMissed spelled is = table_missed r spelled is
 stopped_line files words r had has missed stop.MapTooLong spelled is = refusal r (line_of stop.MapTooLong) spelled (stopped_refused files r had has missed stop.MapTooLong is refl)
 stopped_line files words r had has missed stop.TableTooLong spelled is = refusal r (line_of stop.TableTooLong) spelled (stopped_refused files r had has missed stop.TableTooLong is refl)
 stopped_line files words r had has missed (stop.Refused line) spelled is = refusal r line spelled (stopped_refused files r had has missed (stop.Refused line) is refl)
 
-pub heard_stop : (files : Option Files) (before between after : Option (List ℕ)) (words : List (List ℕ)) (r : Request) (had has : ℕ) (missed : List ℕ) (why : Stop)
+-- the same where saying the line has changed neither the count of failed fetches nor the missed name
+pub heard_stop : (files : Option Files) (before between after : Option (List ℕ)) (words : List (List ℕ)) (r : Request) (had has count : ℕ) (missed name : List ℕ) (why : Stop)
     → Spells words r → IsStopped files r had has missed why → between ≡ before → IsPartlySpoken between after (line_of why)
-    → IsHeard files before after words
-heard_stop files before between after words r had has missed why spelled is same part =
-    inr (line_of why, stopped_line files words r had has missed why spelled is, subst (λ b. IsPartlySpoken b after (line_of why)) same part)
+    → count ≡ has → name ≡ missed → IsHeard files before after words had count name
+heard_stop files before between after words r had has count missed name why spelled is same part counted named =
+    inr (
+      line_of why,
+      subst (λ m. IsDueLine files words had count m (line_of why)) (sym named)
+          (subst (λ n. IsDueLine files words had n missed (line_of why)) (sym counted) (stopped_line files words r had has missed why spelled is)),
+      subst (λ b. IsPartlySpoken b after (line_of why)) same part,
+    )
 
-pub heard_report : (files : Option Files) (before between after : Option (List ℕ)) (words : List (List ℕ)) (r : Request) (s : Stated) (plan : Plan)
+pub heard_report : (files : Option Files) (before between after : Option (List ℕ)) (words : List (List ℕ)) (had has : ℕ) (missed : List ℕ) (r : Request) (s : Stated) (plan : Plan)
     → Spells words r → Answered files r s → Writes plan s → between ≡ before
-    → (after ≡ between) ⊎ IsPartlySpoken between after plan.report.items → IsHeard files before after words
-heard_report files before between after words r s plan spelled answered writes same part =
+    → (after ≡ between) ⊎ IsPartlySpoken between after plan.report.items → IsHeard files before after words had has missed
+heard_report files before between after words had has missed r s plan spelled answered writes same part =
     elim part [
       | inl none ↦ inl (none ∙ same)
       | inr some ↦ inr (report s, reported r s spelled answered, subst (λ t. IsPartlySpoken before after t) writes.report_is (subst (λ b. IsPartlySpoken b after plan.report.items) same some))

@@ -2,12 +2,11 @@
 use Rattle.std.specs.Prelude.{◌≡◌, ℕ, List, Result, Ok, Err, Option, ⊤}
 use Rattle.generalise_core.specs.Texts.{text_of}
 use Rattle.shelf_io.specs.Files.{Files}
-use Rattle.shelf_io.specs.Causes.{Rose}
 use Rattle.generalise_core.specs.Words.{Request}
 use Rattle.generalise_core.specs.Certificates.{Stated, certificate, report}
 use Rattle.generalise_core.specs.Answers.{IsAnswer}
 use Rattle.generalise_steps.specs.Refusals.{Refuses}
-use Rattle.generalise_core.specs.Runs.{Answered, IsText, IsTooLong, map_limit, table_limit}
+use Rattle.generalise_core.specs.Runs.{Answered, IsText, IsTooLong, MissesMap, MissesTable, map_limit, table_limit}
 use Rattle.generalise_core.specs.declared.plan.Halt.{Halt}
 use Rattle.generalise_core.specs.declared.plan.Halt.TheVariants as halt
 use Rattle.generalise_core.specs.declared.plan.Plan.{Plan}
@@ -37,13 +36,6 @@ pub record Keeps (files : Option Files) (r : Request) (plan : Plan) : Type 0 whe
   pub stated : Stated
   pub answered : Answered files r stated
   pub writes : Writes plan stated
-
--- a fetch failed: the count rose
-abbrev pub MissesMap : Request → ℕ → ℕ → List ℕ → Type 0
-MissesMap r had has missed = Rose had has × (missed ≡ r.map)
-
-abbrev pub MissesTable : Option Files → Request → ℕ → ℕ → List ℕ → Type 0
-MissesTable files r had has missed = Rose had has × (missed ≡ r.table) × ((map : List ℕ) × IsText files r.map map_limit map)
 
 -- why nothing is stored, once the words spell a request
 abbrev pub IsStopped : Option Files → Request → ℕ → ℕ → List ℕ → Stop → Type 0

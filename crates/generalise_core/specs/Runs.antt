@@ -87,6 +87,14 @@ pub record IsRefusal (files : Option Files) (before after : Option (List ℕ)) (
   pub refused : IsRefused files request line
   pub heard : after ≡ spoken before line
 
+-- a fetch of this run failed, so the count rose, and the map was missed
+abbrev pub MissesMap : Request → ℕ → ℕ → List ℕ → Type 0
+MissesMap r had has missed = Rose had has × (missed ≡ r.map)
+
+-- the same of the table, once the map was there
+abbrev pub MissesTable : Option Files → Request → ℕ → ℕ → List ℕ → Type 0
+MissesTable files r had has missed = Rose had has × (missed ≡ r.table) × ((map : List ℕ) × IsText files r.map map_limit map)
+
 -- the map was missed, or the table once the map was there, and the line says which
 abbrev pub IsMissed : Option Files → Option (List ℕ) → Option (List ℕ) → Request → List ℕ → Type 0
 IsMissed files before after r missed =
@@ -105,18 +113,18 @@ abbrev pub IsPartlyKept : Option Files → Option Files → List (List ℕ) → 
 IsPartlyKept old new words =
     (new ≡ old) ⊎ ((r : Request) × (s : Stated) × Spells words r × Answered old r s × IsPartlyPut old new (dues r s))
 
--- the line that a run is due to say
-pub data IsDueLine (files : Option Files) (words : List (List ℕ)) : List ℕ → Type 0 where
-  usage : ((r : Request) → ¬ Spells words r) → IsDueLine files words usage_line
-  refusal : (r : Request) (line : List ℕ) → Spells words r → IsRefused files r line → IsDueLine files words line
-  map_missed : (r : Request) → Spells words r → IsDueLine files words (codes "read fault: map\n")
-  table_missed : (r : Request) → Spells words r → IsDueLine files words (codes "read fault: table\n")
-  reported : (r : Request) (s : Stated) → Spells words r → Answered files r s → IsDueLine files words (report s)
+-- the line that a run is due to say, whose fetches failed so often before it and after it and missed that file last
+pub data IsDueLine (files : Option Files) (words : List (List ℕ)) (had has : ℕ) (missed : List ℕ) : List ℕ → Type 0 where
+  usage : ((r : Request) → ¬ Spells words r) → IsDueLine files words had has missed usage_line
+  refusal : (r : Request) (line : List ℕ) → Spells words r → IsRefused files r line → IsDueLine files words had has missed line
+  map_missed : (r : Request) → Spells words r → MissesMap r had has missed → IsDueLine files words had has missed (codes "read fault: map\n")
+  table_missed : (r : Request) → Spells words r → MissesTable files r had has missed → IsDueLine files words had has missed (codes "read fault: table\n")
+  reported : (r : Request) (s : Stated) → Spells words r → Answered files r s → IsDueLine files words had has missed (report s)
 
 -- what was said is a prefix of the due line or all of it
-abbrev pub IsHeard : Option Files → Option (List ℕ) → Option (List ℕ) → List (List ℕ) → Type 0
-IsHeard files before after words =
-    (after ≡ before) ⊎ ((line : List ℕ) × IsDueLine files words line × IsPartlySpoken before after line)
+abbrev pub IsHeard : Option Files → Option (List ℕ) → Option (List ℕ) → List (List ℕ) → ℕ → ℕ → List ℕ → Type 0
+IsHeard files before after words had has missed =
+    (after ≡ before) ⊎ ((line : List ℕ) × IsDueLine files words had has missed line × IsPartlySpoken before after line)
 
 -- told files hold a map and a table that are accepted, and this is their problem
 pub record IsProblemOf (files : Option Files) (words : List (List ℕ)) (p : Plan) : Type 0 where
@@ -133,7 +141,3 @@ pub record AreRefused (files : Option Files) (words : List (List ℕ)) (line : L
   pub request : Request
   pub spelled : Spells words request
   pub refused : IsRefused (Some told) request line
-
--- the run answers with a certificate
-abbrev pub IsAnswered : Status → Type 0
-IsAnswered status = (kind : Kind) × (status ≡ status_of kind)

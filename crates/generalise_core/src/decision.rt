@@ -15,6 +15,9 @@ pub const MAP_LIMIT: usize = 67_108_864;
 pub const TABLE_LIMIT: usize = 1_048_576;
 
 /// Fetches the map and the table, and makes of them what is to be put out.
+///
+/// It is stopped where the map is not fetched or too long, where the table is not, and where what they hold is refused, by the first of
+/// these that applies.
 pub fn decide<S: Shelf, W: Crew>(
     alloc: Global,
     shelf: &mut S,

@@ -11,6 +11,7 @@ ghost use Rattle.generalise_core.specs.Certificates.{with_map};
 ghost use Rattle.generalise_core.specs.Places.{ArePlaces};
 ghost use Rattle.generalise_core.specs.Certificates.{Stated};
 ghost use Rattle.generalise_core.specs.Plans.{IsPlanned, Writes};
+ghost use Rattle.generalise_core.specs.Runs.{map_limit, table_limit};
 
 use crate::certificate::{certificate, report};
 use crate::{Kind, Leaf, Outcome, Stop};
@@ -25,17 +26,22 @@ use std::alloc::Global;
 /// What a run is to store and say.
 #[derive(Drop)]
 pub struct Plan {
+    /// How the run is to end.
     pub kind: Kind,
+    /// The text of the certificate.
     pub certificate: Vec<u8>,
     /// The written map; none where no grouping is feasible.
     pub map: Option<Vec<u8>>,
+    /// The lines that are said.
     pub report: Vec<u8>,
 }
 
 /// Why there is no plan.
 #[derive(Drop)]
 pub enum Halt {
+    /// A line is due in its place.
     Stopped(Stop),
+    /// Memory is wanting.
     Memory,
 }
 
@@ -183,8 +189,8 @@ fn planned(alloc: Global, loaded: &Loaded) -> Result<Plan, NoMemory>
 
 /// What is to be put out, or the line that refuses the files.
 pub fn make_plan<W: Crew>(alloc: Global, map: &[u8], table: &[u8], crew: &W) -> Result<Plan, Halt>
-    requires map { length map.now ≤ 67108864 }
-    requires table { length table.now ≤ 1048576 }
+    requires map { length map.now ≤ map_limit }
+    requires table { length table.now ≤ table_limit }
     ensures { IsPlanned map.now table.now result }
 {
     let loaded = match load(alloc, map, table, crew) {

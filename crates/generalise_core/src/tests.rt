@@ -167,48 +167,61 @@ fn refuses(
     stops(rt, alloc, &FORM, map, table, 65, line)
 }
 
+// A map of one row with these cells.
+fn row_of(alloc: Global, cells: &[u8]) -> Result<Vec<u8>, NoMemory> {
+    let mut map = Vec::from_slice(
+        alloc,
+        b"ncols 3\nnrows 1\nxllcorner 0\nyllcorner 0\ncellsize 1\n",
+    )?;
+    map.extend_from_slice(cells)?;
+    map.push(b'\n')?;
+    Ok(map)
+}
+
+const CENTRED: &[u8] = b"ncols 3\nnrows 1\nxllcenter 0\nyllcorner 0\ncellsize 1\n1 2 1\n";
+
 #[test]
-fn what_is_refused_is_named(rt: HostRuntime) -> Result<(), Fail> {
+fn maps_are_refused(rt: HostRuntime) -> Result<(), Fail> {
     let alloc = rt.alloc();
-    let centred = b"ncols 3\nnrows 1\nxllcenter 0\nyllcorner 0\ncellsize 1\n1 2 1\n";
-    assert!(rt; refuses(&rt, alloc, centred, TABLE, b"refused: map Centred 3\n")?);
-    let short = b"ncols 3\nnrows 1\nxllcorner 0\nyllcorner 0\ncellsize 1\n1 2\n";
-    assert!(rt; refuses(&rt, alloc, short, TABLE, b"refused: map Count 2\n")?);
-    let half = b"ncols 3\nnrows 1\nxllcorner 0\nyllcorner 0\ncellsize 1\n1 2.5 1\n";
-    assert!(rt; refuses(&rt, alloc, half, TABLE, b"refused: map Cell 0 1\n")?);
-    let strange = b"ncols 3\nnrows 1\nxllcorner 0\nyllcorner 0\ncellsize 1\n1 3 1\n";
-    assert!(rt;
-        refuses(
-            &rt,
-            alloc,
-            strange,
-            TABLE,
-            b"refused: classes UnknownClass 1\n"
-        )?
-    );
-    let repeated = b"classes 1\nborder 1\nclass 4 a\nclass 4 a\n";
-    assert!(rt;
-        refuses(
-            &rt,
-            alloc,
-            MAP,
-            repeated,
-            b"refused: table RepeatedClass 4\n"
-        )?
-    );
-    let version = b"classes 2\n";
-    assert!(rt; refuses(&rt, alloc, MAP, version, b"refused: table Line 1 Version\n")?);
-    assert!(rt; refuses(&rt, alloc, centred, version, b"refused: map Centred 3\n")?);
-    assert!(rt;
-        refuses(
-            &rt,
-            alloc,
-            strange,
-            version,
-            b"refused: table Line 1 Version\n"
-        )?
-    );
+    assert!(rt; refuses(&rt, alloc, CENTRED, TABLE, b"refused: map Centred 3\n")?);
     assert!(rt; refuses(&rt, alloc, b"", TABLE, b"refused: map Header 1\n")?);
+    for (cells, line) in [
+        (&b"1 2"[..], &b"refused: map Count 2\n"[..]),
+        (&b"1 2.5 1"[..], &b"refused: map Cell 0 1\n"[..]),
+        (&b"1 3 1"[..], &b"refused: classes UnknownClass 1\n"[..]),
+    ] {
+        let map = row_of(alloc, cells)?;
+        assert!(rt; refuses(&rt, alloc, &map, TABLE, line)?);
+    }
+    Ok(())
+}
+
+#[test]
+fn tables_are_refused(rt: HostRuntime) -> Result<(), Fail> {
+    let alloc = rt.alloc();
+    let repeated = b"classes 1\nborder 1\nclass 4 a\nclass 4 a\n";
+    let line = b"refused: table RepeatedClass 4\n";
+    assert!(rt; refuses(&rt, alloc, MAP, repeated, line)?);
+    let version = b"classes 2\n";
+    let line = b"refused: table Line 1 Version\n";
+    assert!(rt; refuses(&rt, alloc, MAP, version, line)?);
+    Ok(())
+}
+
+// The length of the table goes before the text of the map, this before the text of the table, and this before the classes.
+#[test]
+fn the_first_refusal_is_said(rt: HostRuntime) -> Result<(), Fail> {
+    let alloc = rt.alloc();
+    let version = b"classes 2\n";
+    assert!(rt; refuses(&rt, alloc, CENTRED, version, b"refused: map Centred 3\n")?);
+    let strange = row_of(alloc, b"1 3 1")?;
+    let line = b"refused: table Line 1 Version\n";
+    assert!(rt; refuses(&rt, alloc, &strange, version, line)?);
+    let mut long = Vec::new(alloc);
+    for _ in 0..1_048_577u32 {
+        long.push(b'#')?;
+    }
+    assert!(rt; refuses(&rt, alloc, CENTRED, &long, b"refused: table TooLong\n")?);
     Ok(())
 }
 
@@ -251,6 +264,10 @@ fn cells_that_touch_at_a_corner_are_not_linked(rt: HostRuntime) -> Result<(), Fa
     assert_eq!(rt;
         bytes_of(&end.certificate),
         b"aggregation 1\nstatus optimal\ncost 0\nbound 0\nareas 2\nregions 2\nr 0\nr 0\na 0\na 1\nc 1 0\nend\n".as_slice()
+    );
+    assert_eq!(rt;
+        bytes_of(&end.map),
+        b"{\"type\":\"Topology\",\"transform\":{\"scale\":[1,1],\"translate\":[0,0]},\"objects\":{\"regions\":{\"type\":\"GeometryCollection\",\"geometries\":[{\"type\":\"MultiPolygon\",\"id\":0,\"properties\":{\"class\":\"1\"},\"arcs\":[[[-2]]]},{\"type\":\"MultiPolygon\",\"id\":1,\"properties\":{\"class\":\"1\"},\"arcs\":[[[0]]]}]}},\"arcs\":[[[1,1],[0,-1],[1,0],[0,1],[-1,0]],[[1,1],[-1,0],[0,1],[1,0],[0,-1]]]}\n".as_slice()
     );
     Ok(())
 }
@@ -319,57 +336,34 @@ fn is_usage(rt: &impl Abort, alloc: Global, words: &[&str]) -> Result<bool, NoMe
 #[test]
 fn other_words_are_usage(rt: HostRuntime) -> Result<(), Fail> {
     let alloc = rt.alloc();
-    assert!(rt; is_usage(&rt, alloc, &[])?);
-    assert!(rt; is_usage(&rt, alloc, &["generalise", "grid", "m", "t", "o", "c"])?);
-    assert!(rt;
-        is_usage(
-            &rt,
-            alloc,
-            &["generalise", "grid", "m", "t", "o", "o", "--splits", "0"]
-        )?
-    );
-    assert!(rt;
-        is_usage(
-            &rt,
-            alloc,
-            &["generalise", "grid", "m", "t", "o", "c", "--splits=0"]
-        )?
-    );
-    assert!(rt;
-        is_usage(
-            &rt,
-            alloc,
-            &["generalise", "grid", "m", "t", "", "c", "--splits", "0"]
-        )?
-    );
-    assert!(rt;
-        is_usage(
-            &rt,
-            alloc,
-            &["generalise", "grid", "m", "t", "-o", "c", "--splits", "0"]
-        )?
-    );
-    assert!(rt;
-        is_usage(
-            &rt,
-            alloc,
-            &["generalise", "grid", "m", "t", "o", "c", "--splits"]
-        )?
-    );
-    assert!(rt;
-        is_usage(
-            &rt,
-            alloc,
-            &["check", "grid", "m", "t", "o", "c", "--splits", "0"]
-        )?
-    );
+    for words in [
+        &[][..],
+        &["generalise", "grid", "m", "t", "o", "c"][..],
+        &["generalise", "grid", "m", "t", "o", "c", "--splits"][..],
+        &["generalise", "grid", "m", "t", "o", "c", "--splits=0"][..],
+        &["generalise", "grid", "m", "t", "o", "o", "--splits", "0"][..],
+        &["generalise", "grid", "m", "t", "", "c", "--splits", "0"][..],
+        &["generalise", "grid", "m", "t", "-o", "c", "--splits", "0"][..],
+        &["check", "grid", "m", "t", "o", "c", "--splits", "0"][..],
+    ] {
+        assert!(rt; is_usage(&rt, alloc, words)?, "for {words:?}");
+    }
+    Ok(())
+}
+
+// The first call of a run with such words says the usage: nothing is fetched.
+#[test]
+fn other_words_fetch_nothing(rt: HostRuntime) -> Result<(), Fail> {
+    let end = ending_of(&rt, rt.alloc(), &["generalise"], MAP, TABLE, &[0])?;
+    assert_eq!(rt; end.code, 75);
+    assert_eq!(rt; end.said.as_slice(), &USAGE[..USAGE.len() / 2]);
     Ok(())
 }
 
 #[test]
 fn an_option_stands_once(rt: HostRuntime) -> Result<(), Fail> {
     let alloc = rt.alloc();
-    let twice = [
+    let twice = &[
         "generalise",
         "--splits",
         "0",
@@ -381,8 +375,8 @@ fn an_option_stands_once(rt: HostRuntime) -> Result<(), Fail> {
         "--splits",
         "0",
     ];
-    assert!(rt; is_usage(&rt, alloc, &twice)?);
-    let long = [
+    assert!(rt; is_usage(&rt, alloc, twice)?);
+    let long = &[
         "generalise",
         "grid",
         "m",
@@ -392,8 +386,8 @@ fn an_option_stands_once(rt: HostRuntime) -> Result<(), Fail> {
         "--splits",
         "00000000",
     ];
-    assert!(rt; is_usage(&rt, alloc, &long)?);
-    let among = [
+    assert!(rt; is_usage(&rt, alloc, long)?);
+    let among = &[
         "generalise",
         "grid",
         "m",
@@ -403,7 +397,7 @@ fn an_option_stands_once(rt: HostRuntime) -> Result<(), Fail> {
         "o",
         "c",
     ];
-    assert_eq!(rt; ending_of(&rt, alloc, &among, MAP, TABLE, &[])?.code, 3);
+    assert_eq!(rt; ending_of(&rt, alloc, among, MAP, TABLE, &[])?.code, 3);
     Ok(())
 }
 
@@ -450,6 +444,19 @@ fn each_call_fails_in_turn(rt: HostRuntime) -> Result<(), Fail> {
     let half = b"within\nareas 3\npassed 0\nregio";
     assert!(rt; leaves(&rt, alloc, &[4], (75, half), WITHIN, DRAWN)?);
     assert!(rt; leaves(&rt, alloc, &[0, 1], (75, b"read fau"), none, none)?);
+    Ok(())
+}
+
+#[test]
+fn a_missing_table_is_a_read_fault(rt: HostRuntime) -> Result<(), Fail> {
+    let alloc = rt.alloc();
+    let mut files = Vec::new(alloc);
+    files.push((Text::of(alloc, "m")?, Vec::from_slice(alloc, MAP)?))?;
+    assert!(rt; names_differ(&files));
+    let mut shelf = MemShelf::new(alloc, files, Vec::new(alloc));
+    let status = run(alloc, &words_of(alloc, &FORM)?, &mut shelf, &Alone);
+    assert_eq!(rt; status, Status::ReadFault);
+    assert_eq!(rt; shelf.said(), b"read fault: table\n".as_slice());
     Ok(())
 }
 

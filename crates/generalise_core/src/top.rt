@@ -122,7 +122,18 @@ fn carry_out<S: Shelf>(shelf: &mut S, asked: &Asked, plan: &Plan) -> Status
     say_report(shelf, plan)
 }
 
-/// Reads the words and the files, and stores and says the answer.
+/// Generalises a map: reads the words and the files that they name, stores the certificate and the written map, and says the report.
+///
+/// The words are `generalise grid MAP TABLE OUT CERT` and, anywhere behind the first, `--splits 0`. Then these steps are taken, and the
+/// first that fails decides: MAP is fetched, then TABLE; the length of each is looked at as it comes; the text of the map and that of the
+/// table are read; the coverage is checked; the problem is made and answered; CERT is stored, then OUT unless no grouping is feasible,
+/// and the report is said.
+///
+/// - `Usage` comes exactly where the words are in no such form, and the usage is said.
+/// - `Refused` comes exactly where one of the steps refuses a file, with the line that says which and why.
+/// - `Done`, `Within` and `Hopeless` come where all is stored and said, as the bound is the cost, is below it, or no grouping is feasible.
+/// - `ReadFault` comes only where a fetch failed, with the line that says of which file, and `WriteFault` only where a store or a say did.
+/// - `Memory` comes where memory is wanting, at any point.
 pub fn run<S: Shelf, W: Crew>(alloc: Global, words: &Words, shelf: &mut S, crew: &W) -> Status
     // The words are in no form, exactly.
     ensures usage { result ≡ Status.Usage → ((r : Request) → ¬ Spells words.now r) × (S.said shelf.new ≡ spoken (S.said shelf.old) usage_line) }
@@ -144,7 +155,7 @@ pub fn run<S: Shelf, W: Crew>(alloc: Global, words: &Words, shelf: &mut S, crew:
     // Nothing else changes.
     ensures unchanged { (result ≡ Status.Usage) ⊎ (result ≡ Status.Refused) ⊎ (result ≡ Status.ReadFault) → S.files shelf.new ≡ S.files shelf.old }
     ensures partly { IsPartlyKept (S.files shelf.old) (S.files shelf.new) words.now }
-    ensures heard { IsHeard (S.files shelf.old) (S.said shelf.old) (S.said shelf.new) words.now }
+    ensures heard { IsHeard (S.files shelf.old) (S.said shelf.old) (S.said shelf.new) words.now (S.fetch_faults shelf.old) (S.fetch_faults shelf.new) (S.missed shelf.new) }
 {
     let Ok(asked) = read_words(alloc, words) else {
         return Status::Memory;

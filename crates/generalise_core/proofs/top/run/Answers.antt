@@ -6,7 +6,7 @@ use Rattle.generalise_core.proofs.Heard.{heard_usage, heard_stop, heard_report, 
 use Rattle.generalise_core.proofs.top.run.Goals as goal
 
 pub returns-in_default-asked-clause-heard : goal.returns-in_default-asked-clause-heard
-returns-in_default-asked-clause-heard g c = heard_usage _ _ _ _ (rw c.in_default-asked.is at c.in-Ok.ensures.none) c.tell.ensures.partly
+returns-in_default-asked-clause-heard g c = heard_usage _ _ _ _ _ _ _ (rw c.in_default-asked.is at c.in-Ok.ensures.none) c.tell.ensures.partly
 
 pub returns-in-Ok-decide-clause-unspelled : goal.returns-in-Ok-decide-clause-unspelled
 returns-in-Ok-decide-clause-unspelled g c = λ never. absurd (never _ (rw c.in-Some.is at c.in-Ok.ensures.found))
@@ -27,7 +27,7 @@ returns-in-Ok-decide-clause-partly g c =
 
 pub returns-in-Ok-decide-clause-heard : goal.returns-in-Ok-decide-clause-heard
 returns-in-Ok-decide-clause-heard g c =
-    heard_report _ _ _ _ _ (request c.in-Some.asked) _ _ (rw c.in-Some.is at c.in-Ok.ensures.found) c.in-Ok-decide.ensures.decided.answered c.in-Ok-decide.ensures.decided.writes c.decide.ensures.said c.carry_out.ensures.partly_heard
+    heard_report _ _ _ _ _ _ _ _ (request c.in-Some.asked) _ _ (rw c.in-Some.is at c.in-Ok.ensures.found) c.in-Ok-decide.ensures.decided.answered c.in-Ok-decide.ensures.decided.writes c.decide.ensures.said c.carry_out.ensures.partly_heard
 
 pub returns-in-Err-Stopped-clause-refused : goal.returns-in-Err-Stopped-clause-refused
 returns-in-Err-Stopped-clause-refused g c = λ e.
@@ -47,7 +47,7 @@ returns-in-Err-Stopped-clause-hopeless g c = λ p problem never.
 pub returns-in-Err-Stopped-clause-heard : goal.returns-in-Err-Stopped-clause-heard
 returns-in-Err-Stopped-clause-heard g c =
     let is = rw c.in-Err-Stopped.field-0-is at c.in-Err-Stopped.ensures.decided in
-    heard_stop (g.S.Shelf.files c.args.shelf.now) (g.S.Shelf.said c.args.shelf.now) (g.S.Shelf.said c.decide.new.shelf) (g.S.Shelf.said c.tell-in-Err-Stopped.new.shelf) c.args.words.now (request c.in-Some.asked) _ _ _ _ (rw c.in-Some.is at c.in-Ok.ensures.found) is c.decide.ensures.said (rw c.in-Err-Stopped.field-0-is at c.tell-in-Err-Stopped.ensures.partly)
+    heard_stop (g.S.Shelf.files c.args.shelf.now) (g.S.Shelf.said c.args.shelf.now) (g.S.Shelf.said c.decide.new.shelf) (g.S.Shelf.said c.tell-in-Err-Stopped.new.shelf) c.args.words.now (request c.in-Some.asked) _ _ _ _ _ _ (rw c.in-Some.is at c.in-Ok.ensures.found) is c.decide.ensures.said (rw c.in-Err-Stopped.field-0-is at c.tell-in-Err-Stopped.ensures.partly) c.tell-in-Err-Stopped.ensures.fetches c.tell-in-Err-Stopped.ensures.missed
 
 -- the words are in no form, so they name no files
 pub returns-in_default-asked-clause-refusing : goal.returns-in_default-asked-clause-refusing
