@@ -1,9 +1,9 @@
 #!/usr/bin/env python3
 """Compares the program with the second implementation on random maps and tables: compare.py PROGRAM RUNS SEED
 
-In about a third of the runs a text is changed at random places, so that refusals are compared too. The written map is held against the certificate: the
-middle of each cell lies in the drawn region of the cell's area and in no other, and in none where there is no data. It prints the first run
-that differs, or how many agreed, by exit code. It takes no part in any proof.
+In about a third of the runs a text is changed at random places, so that refusals are compared too. The written map is held against the
+certificate: the middle of each cell lies in the drawn region of the cell's area and in no other, and in none where there is no data. It
+prints the first run that differs, or how many agreed, by exit code. It takes no part in any proof.
 """
 import collections
 import json
@@ -28,8 +28,11 @@ def random_grid(dice):
     if dice.random() < 0.3:
         head = [line.upper() if dice.random() < 0.5 else line for line in head]
     if dice.random() < 0.2:
-        head.insert(dice.randint(0, len(head)), dice.choice(["", " \t", "XLLCENTER 1", "dx 1", "ncols 3", "ncols 3 4"]))
-    body = [dice.choice([" ", "  ", "\t"]).join(dice.choice(values) for _ in range(columns)) for _ in range(rows)]
+        strange = ["", " \t", "XLLCENTER 1", "dx 1", "ncols 3", "ncols 3 4"]
+        head.insert(dice.randint(0, len(head)), dice.choice(strange))
+    body = []
+    for _ in range(rows):
+        body.append(dice.choice([" ", "  ", "\t"]).join(dice.choice(values) for _ in range(columns)))
     return spelled(dice, head + body)
 
 
@@ -42,9 +45,12 @@ def random_table(dice):
     out.append(f"border {dice.choice([0, 1, 17, 10000])}")
     out += [f"class {dice.choice([0, 2, 4, 8, 30, 10**30])} {name}" for name in names]
     for i in range(len(names)):
-        out.append("row " + " ".join("0" if i == j else str(dice.choice([0, 5, 300, 10000])) for j in range(len(names))))
+        row = [dice.choice([0, 5, 300, 10000]) for _ in names]
+        row[i] = 0
+        out.append("row " + " ".join(map(str, row)))
     if dice.random() < 0.3:
-        out.insert(dice.randint(0, len(out)), dice.choice(["# a comment", "", "  ", " # no comment", "row 0", "class 4 1"]))
+        strange = ["# a comment", "", "  ", " # no comment", "row 0", "class 4 1"]
+        out.insert(dice.randint(0, len(out)), dice.choice(strange))
     return spelled(dice, out)
 
 
@@ -54,6 +60,7 @@ def spelled(dice, rows):
 
 
 def changed(dice, text):
+    """The text with one to three bytes changed, left out or put in."""
     text = bytearray(text)
     for _ in range(dice.randint(1, 3)):
         at = dice.randint(0, len(text))
@@ -67,7 +74,16 @@ def changed(dice, text):
     return bytes(text)
 
 
+def bytes_of(path):
+    """The bytes of a file; None where there is none."""
+    if not os.path.exists(path):
+        return None
+    with open(path, "rb") as file:
+        return file.read()
+
+
 def run(program, folder, map_text, table_text):
+    """What the program ends with and says, and the bytes of the certificate; the bytes of the map."""
     names = {name: os.path.join(folder, name) for name in "mtoc"}
     for name, text in (("m", map_text), ("t", table_text)):
         with open(names[name], "wb") as file:
@@ -77,20 +93,20 @@ def run(program, folder, map_text, table_text):
             os.remove(names[name])
     words = [program, "generalise", "grid"] + [names[name] for name in "mtoc"] + ["--splits", "0"]
     done = subprocess.run(words, capture_output=True, check=False)
-    kept = [open(names[name], "rb").read() if os.path.exists(names[name]) else None for name in "co"]
-    return (done.returncode, done.stdout, kept[0]), kept[1]
+    return (done.returncode, done.stdout, bytes_of(names["c"])), bytes_of(names["o"])
 
 
 def rings_of(topology):
     """The rings of each drawn region as lists of points in cells; None where a ring is not closed or visits a point twice."""
     drawn = []
     for _, rings in regions(topology):
+        drawn.append([])
         for paths in rings:
             points = ring_of(paths)
             joined = all(path[-1] == after[0] for path, after in zip(paths, paths[1:] + paths[:1]))
             if not joined or len(set(points)) != len(points):
                 return None
-        drawn.append([ring_of(paths) for paths in rings])
+            drawn[-1].append(points)
     return drawn
 
 
@@ -133,7 +149,8 @@ def main():
             if dice.random() < 0.2:
                 table_text = changed(dice, table_text)
             (got, out), due = run(program, folder, map_text, table_text), answer(map_text, table_text)
-            if got != due or (out is not None if got[2] is None else not is_drawn(map_text, got[2], out)):
+            right = out is None if got[2] is None else is_drawn(map_text, got[2], out)
+            if got != due or not right:
                 print(f"map {map_text!r}\ntable {table_text!r}\nprogram {got!r}\nmap {out!r}\nreference {due!r}")
                 sys.exit(1)
             codes[got[0], got[1].split(b"\n")[0].decode() if got[0] == 65 else ""] += 1
@@ -141,4 +158,5 @@ def main():
         print(count, code, line)
 
 
-main()
+if __name__ == "__main__":
+    main()

@@ -24,4 +24,5 @@ def main():
         file.write("\n".join(table) + "\n")
 
 
-main()
+if __name__ == "__main__":
+    main()

@@ -38,4 +38,5 @@ def main():
             file.write(" ".join(row) + "\n")
 
 
-main()
+if __name__ == "__main__":
+    main()

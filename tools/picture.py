@@ -7,24 +7,13 @@ in any proof.
 import json
 import sys
 
+from reference import read_grid
 from topology import regions, ring_of
 
-COLOURS = ["#3d7a4b", "#a9cf7f", "#e8d27a", "#7fb8b0", "#f2e6c9", "#c0504d", "#8f7fb8", "#b0b0b0", "#5b8bc0", "#d99a5b", "#6f6f3f", "#d8a8c8"]
+COLOURS = ["#3d7a4b", "#a9cf7f", "#e8d27a", "#7fb8b0", "#f2e6c9", "#c0504d"]
+COLOURS += ["#8f7fb8", "#b0b0b0", "#5b8bc0", "#d99a5b", "#6f6f3f", "#d8a8c8"]
 SIDE = 6
 GAP = 24
-
-
-def read_grid(path):
-    head, cells = {}, []
-    with open(path, encoding="ascii") as file:
-        for line in file:
-            words = line.split()
-            if words and words[0][0].isalpha():
-                head[words[0].lower()] = words[1]
-            else:
-                cells += [int(word.split(".")[0]) for word in words]
-    nodata = int(head.get("nodata_value", "-9999").split(".")[0])
-    return int(head["ncols"]), int(head["nrows"]), nodata, cells
 
 
 def path_of(rings, left, rows):
@@ -44,7 +33,8 @@ def cell_shapes(grid, colour_of):
             while column < columns and cells[row * columns + column] == value:
                 column += 1
             if value != nodata:
-                yield f'<path fill="{colour_of[str(value)]}" d="M{first * SIDE} {row * SIDE}h{(column - first) * SIDE}v{SIDE}h-{(column - first) * SIDE}z"/>'
+                width = (column - first) * SIDE
+                yield f'<path fill="{colour_of[str(value)]}" d="M{first * SIDE} {row * SIDE}h{width}v{SIDE}h-{width}z"/>'
 
 
 def region_shapes(topology, colour_of, left, rows):
@@ -54,7 +44,8 @@ def region_shapes(topology, colour_of, left, rows):
 
 
 def main():
-    grid = read_grid(sys.argv[1])
+    with open(sys.argv[1], "rb") as file:
+        grid = read_grid(file.read())
     with open(sys.argv[2], encoding="utf-8") as file:
         topology = json.load(file)
     columns, rows, nodata, cells = grid
@@ -64,9 +55,11 @@ def main():
     width, height = left + columns * SIDE, rows * SIDE
     shapes = list(cell_shapes(grid, colour_of)) + list(region_shapes(topology, colour_of, left, rows))
     with open(sys.argv[3], "w", encoding="ascii") as file:
-        file.write(f'<svg xmlns="http://www.w3.org/2000/svg" viewBox="-2 -2 {width + 4} {height + 4}" width="{width + 4}" height="{height + 4}">\n')
+        file.write(f'<svg xmlns="http://www.w3.org/2000/svg" viewBox="-2 -2 {width + 4} {height + 4}"')
+        file.write(f' width="{width + 4}" height="{height + 4}">\n')
         file.write(f'<rect x="-2" y="-2" width="{width + 4}" height="{height + 4}" fill="#dfe9f0"/>\n')
         file.write('<g shape-rendering="crispEdges">\n' + "\n".join(shapes) + "\n</g>\n</svg>\n")
 
 
-main()
+if __name__ == "__main__":
+    main()

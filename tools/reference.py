@@ -30,19 +30,23 @@ def blank_words(line):
     return [word for word in re.split(rb"[ \t]+", line) if word]
 
 
+def digits_value(digits):
+    """The number that digits spell, with any number of zeros in front; more than 31 others are past every limit."""
+    digits = digits.lstrip(b"0")
+    return int(digits or b"0") if len(digits) <= 31 else 10**31
+
+
 def cell_value(word):
     """The value of a cell or of no data; None where the word is none."""
     if not WHOLE.match(word):
         return None
-    value = int(word.split(b".")[0])
-    return value if abs(value) <= FAR else None
+    size = digits_value(word.lstrip(b"-").split(b".")[0])
+    return None if size > FAR else -size if word.startswith(b"-") else size
 
 
 def header_value(name, word):
     if name in (b"ncols", b"nrows"):
-        if not word.isdigit() or not word.isascii() or not 1 <= int(word) <= 524288:
-            return None
-        return int(word)
+        return digits_value(word) if word.isdigit() and word.isascii() and 1 <= digits_value(word) <= 524288 else None
     if name == b"nodata_value":
         return cell_value(word)
     if len(word) > 100 or not JSON_NUMBER.match(word) or (name == b"cellsize" and word.startswith(b"-")):
@@ -114,6 +118,8 @@ def number(word, least, most):
 
 
 class Table:
+    """A class table: the factors of the axes, the border weight, names, thresholds and rows of distances."""
+
     def __init__(self, text):
         self.unit, self.border, self.names, self.thresholds, self.rows = None, None, [], [], []
         seen, all_lines = False, lines(text)
@@ -186,15 +192,12 @@ class Table:
 
 
 class Problem:
-    def __init__(self, grid, table):
-        columns, rows, nodata, cells = grid
-        patch, self.areas = patches_of(columns, rows, nodata, cells)
-        self.table, self.weight, self.own, self.links = table, [0] * self.areas, [None] * self.areas, {}
-        self.columns, self.cells, self.patch = columns, cells, patch
+    """The problem of the cells, their patches and a table: weights, own classes, and links with their lengths."""
 
-    def make(self):
-        columns, cells, patch = self.columns, self.cells, self.patch
-        wide, high = self.table.unit
+    def __init__(self, columns, cells, patch, areas, table):
+        self.areas, self.table = areas, table
+        self.weight, self.own, self.links = [0] * areas, [None] * areas, {}
+        wide, high = table.unit
         for place, area in enumerate(patch):
             if area is None:
                 continue
@@ -225,7 +228,7 @@ class Problem:
         return [top(area) for area in range(self.areas)]
 
 
-def choose(problem, part, members):
+def choose(problem, members):
     """The open class of least recolouring, the least at a tie; None where none is open."""
     weight = sum(problem.weight[area] for area in members)
     owned = {problem.own[area] for area in members}
@@ -245,13 +248,14 @@ def certificate_of(status, cost, bound, areas, regions, region_of, leaf):
 
 
 def solve(problem):
+    """The exit code, status, cost and bound, the certificate, and the number of regions."""
     part = problem.parts()
     members = {}
     for area, least in enumerate(part):
         members.setdefault(least, []).append(area)
     classes, regions, cost = len(problem.table.names), [], 0
     for least in sorted(members):
-        best = choose(problem, part, members[least])
+        best = choose(problem, members[least])
         if best is None:
             own = members[least]
             leaf = [f"v {classes}"]
@@ -267,11 +271,11 @@ def solve(problem):
 
 
 def answer(map_text, table_text):
+    """The exit code, the said text and the certificate for the bytes of a map and a table."""
     try:
-        grid = read_grid(map_text)
-        problem = Problem(grid, None)
-        problem.table = Table(table_text)
-        problem.make()
+        columns, rows, nodata, cells = read_grid(map_text)
+        patch, areas = patches_of(columns, rows, nodata, cells)
+        problem = Problem(columns, cells, patch, areas, Table(table_text))
     except Refused as refusal:
         return 65, f"refused: {refusal}\n".encode(), None
     code, (status, cost, bound), text, regions = solve(problem)
