@@ -6,7 +6,7 @@ use Rattle.plane_edge.specs.Coordinate.{IsCoordinate}
 use Rattle.plane_edge.specs.Edges.{is_edge_below}
 use Rattle.plane_edge.specs.declared.edge.Edge.{Edge}
 use Rattle.plane_edge.specs.declared.point.Point.{Point}
-use Rattle.region_rings.specs.Sides.{middle_of}
+use Rattle.plane_edge.specs.Middle.{middle_of}
 use Rattle.arc_dissolve.specs.Holes.{first_ring, is_shell, IsMiddleOf, IsCandidate, IsPolygon}
 use Rattle.arc_dissolve.specs.Rings.{told}
 
