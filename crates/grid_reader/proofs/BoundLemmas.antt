@@ -6,7 +6,7 @@ use Rattle.std.proofs.lemmas.List.Splits.{length-slice_split}
 use Rattle.std.proofs.lemmas.List.Sums.{count_by-le-length, length-filter}
 use Rattle.agg_base.specs.Lines.{Row, ended_row, rows_of_parts, rows_from}
 use Rattle.agg_base.specs.declared.line.Ending.TheVariants.{Missing, Lf, CrLf}
-use Rattle.grid_reader.specs.Words.{is_gap, is_filled, cell_words}
+use Rattle.text_words.specs.Words.{is_gap, is_filled, gap_words}
 use Rattle.grid_reader.specs.Cells.{body_words}
 
 abbrev weight : List (List ℕ) → ℕ
@@ -30,8 +30,8 @@ split_weight p (x ∷ xs) =
       | false ↦ (let onto = onto_weight x (slice_split p xs) (omega arith) in omega arith)
     ]
 
-words_few : (line : List ℕ) → length (cell_words line) ≤ length line + 1
-unfolding cell_words
+words_few : (line : List ℕ) → length (gap_words line) ≤ length line + 1
+unfolding gap_words
 words_few line =
     let a = length-filter is_filled (slice_split is_gap line) in
     let b = count_by-le-length is_filled (slice_split is_gap line) in
@@ -63,7 +63,7 @@ parts_few n (part ∷ next ∷ parts) = let more = parts_few (n + 1) (next ∷ p
 
 pub body_few : (rows : List Row) → length (body_words rows) ≤ rows_weight rows
 body_few [] = omega arith
-body_few (row ∷ rows) = let more = body_few rows in let first = words_few row.text in let both = length-append (cell_words row.text) (body_words rows) in omega arith
+body_few (row ∷ rows) = let more = body_few rows in let first = words_few row.text in let both = length-append (gap_words row.text) (body_words rows) in omega arith
 
 -- the lines of a text weigh little
 pub text_few : (text : List ℕ) → rows_weight (rows_from 1 text) ≤ length text + 1

@@ -4,13 +4,13 @@ use Rattle.std.specs.List.{AllZip}
 use Rattle.std.proofs.lemmas.Bool.Decides.{Decides-eqb}
 use Rattle.std.proofs.lemmas.List.{take_all}
 use Rattle.std.proofs.lemmas.Slice.Zip.{AllZip-long}
-use Rattle.grid_reader.specs.Words.{word}
+use Rattle.text_words.specs.Words.{word}
 use Rattle.grid_reader.specs.Numbers.{SpellsCell}
 use Rattle.grid_reader.specs.Cells.{IsBadCell}
 use Rattle.grid_reader.specs.Body.{IsBodyFault}
 use Rattle.grid_reader.specs.declared.fault.GridFault.{GridFault}
 use Rattle.grid_reader.specs.declared.fault.GridFault.TheVariants.{Cell, Count}
-use Rattle.grid_reader.proofs.LabelLemmas.{by_cases_of, false_true}
+use Rattle.json_text.proofs.Cases.{by_cases_of, false_true}
 use Rattle.grid_reader.proofs.CellLemmas.{place_of_count}
 use Rattle.grid_reader.proofs.DecideText.{cell_or}
 

@@ -6,7 +6,8 @@ use Rattle.std.proofs.lemmas.Bool.Decides.{nat_tests, Decides-eqb}
 use Rattle.agg_base.specs.Lines.{Row}
 use Rattle.plane_edge.specs.declared.frame.Limit.TheVariants.{Cells}
 use Rattle.plane_edge.specs.declared.frame.Frame.TheVariants.{Scaled}
-use Rattle.grid_reader.specs.Words.{word, words, IsBlankLine, IsHeaderLine}
+use Rattle.text_words.specs.Words.{word, words}
+use Rattle.grid_reader.specs.HeaderLines.{IsBlankLine, IsHeaderLine}
 use Rattle.grid_reader.specs.Header.{Head, name_in, Sets, AddsWords, IsHeaderFault}
 use Rattle.grid_reader.specs.Reading.{EndsHeader, FailsHeader}
 use Rattle.grid_reader.specs.Whole.{LacksWord, SaysWhole, IsEndFault}
@@ -15,7 +16,7 @@ use Rattle.grid_reader.specs.declared.draft.Name.TheVariants.{Columns, Rows, Lef
 use Rattle.grid_reader.specs.declared.whole.Whole.{Whole}
 use Rattle.grid_reader.specs.declared.fault.GridFault.{GridFault}
 use Rattle.grid_reader.specs.declared.fault.GridFault.TheVariants.{Header, Limit, Centred}
-use Rattle.grid_reader.proofs.LabelLemmas.{by_cases_of, false_true}
+use Rattle.json_text.proofs.Cases.{by_cases_of, false_true}
 use Rattle.grid_reader.proofs.DecideText.{count_or, cell_or, corner_or, size_or}
 use Rattle.grid_reader.proofs.OneHeader.{one_name}
 

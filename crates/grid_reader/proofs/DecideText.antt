@@ -15,9 +15,9 @@ use Rattle.agg_base.proofs.PointCuts.{is_point, is_zero, front_of, front_is, whe
 use Rattle.agg_base.proofs.WholeText.{behind_minus, digits_behind, spells, number_has_no_point, one_whole}
 use Rattle.grid_reader.specs.Numbers.{IsCount, SpellsCell, IsCornerText, IsSizeText}
 use Rattle.json_text.specs.NumberTest.{is_json_number}
-use Rattle.grid_reader.proofs.LabelLemmas.{by_cases_of, false_true}
+use Rattle.json_text.proofs.Cases.{by_cases_of, false_true}
 use Rattle.json_text.proofs.NumberLemmas.{json_to, json_from}
-use Rattle.grid_reader.proofs.WordLemmas.{first_at, none_at}
+use Rattle.text_words.proofs.FirstByte.{first_at, none_at}
 
 own : IsNumeralModel (λ ds. list_all is_ascii_digit ds ≡ true) (digits_value 10)
 own = numerals_by_value _ (search rules)

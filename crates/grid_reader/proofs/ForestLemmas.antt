@@ -6,7 +6,8 @@ use Rattle.std.proofs.lemmas.List.{get_or-set_same, get_or-set_other}
 use Rattle.std.proofs.Math.ListN.{length-set}
 use Rattle.std.proofs.lemmas.List.FromFn.{get_or-range_with_len, length-range_with_len}
 use Rattle.std.specs.List.{range_with_len}
-use Rattle.grid_reader.proofs.LabelLemmas.{by_cases_of, false_true, merged_both}
+use Rattle.json_text.proofs.Cases.{by_cases_of, false_true}
+use Rattle.grid_reader.proofs.LabelLemmas.{merged_both}
 use Rattle.grid_reader.specs.Forest.{merged, LeadsDown, IsForest}
 
 -- what holds of the written place and of all others holds of all

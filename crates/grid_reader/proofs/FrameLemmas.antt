@@ -4,7 +4,7 @@ use Rattle.agg_base.specs.Lines.{Row, rows_from}
 use Rattle.plane_edge.specs.declared.frame.Frame.{Frame}
 use Rattle.plane_edge.specs.declared.frame.Frame.TheVariants.{Scaled}
 use Rattle.plane_edge.specs.Rings.{Outline}
-use Rattle.grid_reader.specs.Words.{word, words}
+use Rattle.text_words.specs.Words.{word, words}
 use Rattle.grid_reader.specs.Header.{Head, no_head, Sets}
 use Rattle.grid_reader.specs.Reading.{EndsHeader}
 use Rattle.grid_reader.specs.GridTexts.{IsGridText, SpellsGrid}

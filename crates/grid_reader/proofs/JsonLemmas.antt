@@ -1,5 +1,5 @@
 -- A number of JSON is made of ASCII.
-use Rattle.std.proofs.Common.{◌≡◌, ℕ, zero, suc, ◌<◌, ◌==◌, ◌&&◌, ◌||◌, ◌⊎◌, nat_lt, not, refl, sym, arith, subst, inl, inr, Bool, true, false, List, [], ◌∷◌, length, drop}
+use Rattle.std.proofs.Common.{◌≡◌, ℕ, zero, suc, ◌<◌, ◌==◌, ◌&&◌, ◌||◌, nat_lt, not, refl, sym, arith, subst, inl, inr, true, List, [], ◌∷◌, length, drop}
 use Rattle.std.specs.Prelude.{slice_index}
 use Rattle.std.specs.Str.{IsAscii, IsUtf8}
 use Rattle.std.specs.Char.{is_ascii_digit}
@@ -7,16 +7,7 @@ use Rattle.std.proofs.lemmas.Bool.Decides.{nat_tests, Decides-eqb}
 use Rattle.std.proofs.lemmas.Str.{IsUtf8-from_ascii}
 use Rattle.std.proofs.Math.Seq.{drop-length}
 use Rattle.json_text.specs.NumberTest.{run, unsigned, is_digits, is_power, is_fraction, is_rest, is_bare_number, is_json_number}
-use Rattle.grid_reader.proofs.LabelLemmas.{by_cases_of}
-
-pub both : (a b : Bool) → (a && b) ≡ true → (a ≡ true) × (b ≡ true)
-both true true e = (refl, refl)
-both true false e = (cc, cc)
-both false b e = (cc, cc)
-
-pub either : (a b : Bool) → (a || b) ≡ true → (a ≡ true) ⊎ (b ≡ true)
-either true b e = inl refl
-either false b e = inr e
+use Rattle.json_text.proofs.Cases.{both, either, by_cases_of}
 
 ascii_none : IsAscii []
 ascii_none i = omega arith

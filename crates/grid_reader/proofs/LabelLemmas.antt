@@ -1,19 +1,12 @@
 -- Labels tell the groups of joined cells apart.
-use Rattle.std.proofs.Common.{◌≡◌, ℕ, zero, suc, ◌+◌, ◌<◌, ◌≤◌, ◌≢◌, Bool, true, false, length, refl, ap, sym, ◌∙◌, arith, subst, inl, inr, min, max, zero-add, suc-add, add-one}
+use Rattle.std.proofs.Common.{◌≡◌, ℕ, zero, suc, ◌+◌, ◌<◌, ◌≤◌, ◌≢◌, length, refl, ap, sym, ◌∙◌, arith, subst, inl, inr, min, max, zero-add, suc-add, add-one}
 use Rattle.std.specs.Prelude.{◌==◌, nat_le, List}
 use Rattle.std.proofs.lemmas.Bool.Decides.{nat_tests, Decides-eqb}
+use Rattle.json_text.proofs.Cases.{by_cases_of, false_true}
 use Rattle.grid_reader.specs.Raster.{Raster, value_at}
 use Rattle.grid_reader.specs.Walks.{IsRightOf, IsBelow, HaveOneValue, Leads, Adjoin, Walk, InOnePatch}
 use Rattle.grid_reader.specs.Forest.{merged, IsForest, AreLabels, IsJoined}
 use Rattle.grid_reader.specs.Patches.{AreLeaders}
-
--- what holds at each value of a test holds
-pub by_cases_of : (b : Bool) (P : Type 0) → (b ≡ true → P) → (b ≡ false → P) → P
-by_cases_of true P f g = f refl
-by_cases_of false P f g = g refl
-
-pub false_true : {P : Type 0} → false ≡ true → P
-false_true h = cc
 
 pub merged_both : (a b : ℕ) → merged a b a ≡ merged a b b
 merged_both a b =

@@ -3,8 +3,7 @@ pub mod ForestLemmas
 pub mod NumberLemmas
 pub mod AreaLemmas
 pub mod MemberLemmas
-pub mod Digits
-pub mod WordLemmas
+pub mod OneCell
 pub mod JsonLemmas
 pub mod CellLemmas
 pub mod BoundLemmas

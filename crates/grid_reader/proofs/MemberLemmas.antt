@@ -14,7 +14,8 @@ use Rattle.grid_reader.specs.Walks.{InOnePatch}
 use Rattle.grid_reader.specs.Patches.{ArePatches}
 use Rattle.grid_reader.specs.Areas.{is_number, members, area_at, AreSides, AreAreas}
 use Rattle.grid_reader.specs.Members.{IsAreaOf, AreMembers, lists, list_at, put}
-use Rattle.grid_reader.proofs.LabelLemmas.{by_cases_of, false_true, split_last, patch_value}
+use Rattle.json_text.proofs.Cases.{by_cases_of, false_true}
+use Rattle.grid_reader.proofs.LabelLemmas.{split_last, patch_value}
 use Rattle.grid_reader.proofs.ForestLemmas.{range_more}
 
 -- the members among one cell more

@@ -4,7 +4,7 @@ use Rattle.std.specs.List.{AllZip}
 use Rattle.std.proofs.lemmas.List.{get_or-take, length-take}
 use Rattle.std.proofs.lemmas.Nat.{same_from_place}
 use Rattle.std.proofs.lemmas.Slice.Zip.{AllZip-long}
-use Rattle.grid_reader.specs.Words.{word}
+use Rattle.text_words.specs.Words.{word}
 use Rattle.grid_reader.specs.Numbers.{SpellsCell}
 use Rattle.grid_reader.specs.Cells.{IsBadCell}
 use Rattle.grid_reader.specs.Faults.{IsOtherCount}

@@ -7,7 +7,8 @@ use Rattle.agg_base.proofs.WholeText.{one_whole}
 use Rattle.plane_edge.specs.declared.frame.Limit.TheVariants.{Cells}
 use Rattle.plane_edge.specs.declared.frame.Frame.{Frame}
 use Rattle.plane_edge.specs.declared.frame.Frame.TheVariants.{Scaled}
-use Rattle.grid_reader.specs.Words.{word, words, IsBlankLine, IsHeaderLine}
+use Rattle.text_words.specs.Words.{word, words}
+use Rattle.grid_reader.specs.HeaderLines.{IsBlankLine, IsHeaderLine}
 use Rattle.grid_reader.specs.Numbers.{SpellsCell}
 use Rattle.grid_reader.specs.Header.{Head, Sets, AddsWords, AreCentred, IsHeaderFault}
 use Rattle.grid_reader.specs.Reading.{EndsHeader, FailsHeader}
@@ -17,7 +18,7 @@ use Rattle.grid_reader.specs.declared.draft.Name.TheVariants.{Columns, Rows, Lef
 use Rattle.grid_reader.specs.declared.whole.Whole.{Whole}
 use Rattle.grid_reader.specs.declared.fault.GridFault.{GridFault}
 use Rattle.grid_reader.specs.declared.fault.GridFault.TheVariants.{Header, Centred, Cell, Count, Limit, Memory}
-use Rattle.grid_reader.proofs.LabelLemmas.{false_true}
+use Rattle.json_text.proofs.Cases.{false_true}
 
 -- ---- one line
 

@@ -6,7 +6,8 @@ use Rattle.grid_reader.specs.Raster.{Raster}
 use Rattle.grid_reader.specs.Walks.{InOnePatch}
 use Rattle.grid_reader.specs.Patches.{AreNumbered}
 use Rattle.grid_reader.specs.Areas.{AreAreas, HasManyPatches}
-use Rattle.grid_reader.proofs.LabelLemmas.{by_cases_of, split_last}
+use Rattle.json_text.proofs.Cases.{by_cases_of}
+use Rattle.grid_reader.proofs.LabelLemmas.{split_last}
 
 -- two numberings agree before cell i
 abbrev Agree : ℕ → (ℕ → Option ℕ) → (ℕ → Option ℕ) → Type 0

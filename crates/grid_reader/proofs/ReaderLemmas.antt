@@ -5,7 +5,7 @@ use Rattle.std.proofs.lemmas.Slice.Zip.{AllZip-long}
 use Rattle.agg_base.specs.Lines.{Row, row, rows_left, rows_from}
 use Rattle.agg_base.specs.declared.line.Line.{Line}
 use Rattle.agg_base.specs.declared.line.Lines.{Lines}
-use Rattle.grid_reader.specs.Words.{word, words}
+use Rattle.text_words.specs.Words.{word, words}
 use Rattle.grid_reader.specs.Cells.{body_words}
 use Rattle.grid_reader.specs.Header.{Head, no_head, Sets}
 use Rattle.grid_reader.specs.Reading.{EndsHeader, UnlessMemory}

@@ -16,7 +16,7 @@ use Rattle.grid_reader.specs.Raster.{Raster, IsRaster, value_at}
 use Rattle.grid_reader.specs.Patches.{ArePatches}
 use Rattle.grid_reader.specs.Areas.{place_of, corners_at, corners_of, area_at, AreAreas, HasManyPatches}
 use Rattle.grid_reader.specs.Members.{IsAreaOf, list_at}
-use Rattle.grid_reader.proofs.LabelLemmas.{by_cases_of}
+use Rattle.json_text.proofs.Cases.{by_cases_of}
 use Rattle.grid_reader.proofs.AreaLemmas.{area_pushed}
 use Rattle.grid_reader.proofs.MemberLemmas.{members_areas}
 use Rattle.grid_reader.proofs.SomePatches.{members_of}

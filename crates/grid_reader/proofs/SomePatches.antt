@@ -8,7 +8,8 @@ use Rattle.grid_reader.specs.Walks.{IsRightOf, IsBelow, HaveOneValue, Leads}
 use Rattle.grid_reader.specs.Forest.{merged, AreLabels}
 use Rattle.grid_reader.specs.Patches.{AreLeaders, AreNumbered, ArePatches}
 use Rattle.grid_reader.specs.Members.{AreMembers, put}
-use Rattle.grid_reader.proofs.LabelLemmas.{by_cases_of, false_true, merged_both, patch_step, labels_merged, right_more, under_more, labels_alone, labels_lead}
+use Rattle.json_text.proofs.Cases.{by_cases_of, false_true}
+use Rattle.grid_reader.proofs.LabelLemmas.{merged_both, patch_step, labels_merged, right_more, under_more, labels_alone, labels_lead}
 use Rattle.grid_reader.proofs.NumberLemmas.{numbered_none, numbered_first, numbered_further, numbered_start}
 use Rattle.grid_reader.proofs.MemberLemmas.{no_cells, cell_done}
 

@@ -2,14 +2,14 @@
 use Rattle.std.specs.Prelude.{◌≡◌, ℕ, ◌+◌, ◌*◌, ◌<◌, List, [], ◌∷◌, ◌++◌, length, take, ℤ}
 use Rattle.std.specs.List.{AllZip}
 use Rattle.agg_base.specs.Lines.{Row}
-use Rattle.grid_reader.specs.Words.{cell_words, word}
+use Rattle.text_words.specs.Words.{gap_words, word}
 use Rattle.grid_reader.specs.Numbers.{SpellsCell}
 use Rattle.grid_reader.specs.declared.cells.Cells.{Cells}
 
 -- the words of the lines behind the header
 abbrev pub body_words : List Row → List (List ℕ)
 body_words [] = []
-body_words (row ∷ rows) = cell_words row.text ++ body_words rows
+body_words (row ∷ rows) = gap_words row.text ++ body_words rows
 
 -- the words were counted, and the values are those that the first of them spell, as many as there are cells at most
 pub record HasTaken (cells : Cells) (parts : List (List ℕ)) : Type 0 where

@@ -5,7 +5,7 @@ pub mod Forest
 pub mod Areas
 pub mod Members
 pub mod Faults
-pub mod Words
+pub mod HeaderLines
 pub mod Numbers
 pub mod Header
 pub mod Reading

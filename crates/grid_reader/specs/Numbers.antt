@@ -1,4 +1,4 @@
--- Numbers that a grid spells. Byte 45 is the minus, 43 the plus, 46 the point, 48 the zero, and 69 and 101 are the letters E and e.
+-- Numbers that a grid spells. Byte 45 is the minus.
 use Rattle.std.specs.Prelude.{◌≡◌, ◌≢◌, ◌≤◌, ℕ, List, length, slice_index, ℤ, pos, neg_ℤ, ◌≤ℤ◌}
 use Rattle.std.specs.Str.Parse.{IsNumeral, digits_value}
 use Rattle.agg_base.specs.Numbers.{SpellsWhole}

@@ -1,7 +1,8 @@
 -- The lines of a grid's text: those of its header, and those of its cells.
 use Rattle.std.specs.Prelude.{◌≡◌, ◌⊎◌, List, [], ◌∷◌}
 use Rattle.agg_base.specs.Lines.{Row}
-use Rattle.grid_reader.specs.Words.{words, IsBlankLine, IsHeaderLine}
+use Rattle.text_words.specs.Words.{words}
+use Rattle.grid_reader.specs.HeaderLines.{IsBlankLine, IsHeaderLine}
 use Rattle.grid_reader.specs.Header.{Head, AddsWords, IsHeaderFault}
 use Rattle.grid_reader.specs.declared.fault.GridFault.{GridFault}
 use Rattle.grid_reader.specs.declared.fault.GridFault.TheVariants.{Header, Centred, Cell, Count, Limit, Memory}

@@ -12,16 +12,16 @@ pub(crate) struct Cells {
 ghost use Rattle.std.specs.Prelude.{◌≡◌, ◌<◌, ◌≤◌, ◌+◌, ◌^◌, ◌∷◌, ◌++◌, [], List, ℕ, length, IfErr, IfOk, OnOk};
 ghost use Rattle.std.specs.List.{AllZip};
 ghost use Rattle.grid_reader.specs.Numbers.{SpellsCell};
-ghost use Rattle.grid_reader.specs.Words.{cell_words};
+ghost use Rattle.text_words.specs.Words.{gap_words};
 ghost use Rattle.agg_base.specs.Lines.{rows_left};
 ghost use Rattle.grid_reader.specs.Cells.{HasTaken, body_words};
 ghost use Rattle.grid_reader.specs.Faults.{IsCellFault, IsCountFault};
 
 use crate::GridFault;
 use crate::number::read_cell;
-use crate::words::Parts;
 use agg_base::Lines;
 use std::alloc::Global;
+use text_words::Parts;
 
 impl Cells {
     // Takes a word.
@@ -53,14 +53,14 @@ impl Cells {
     // Takes the words of a line.
     pub(crate) fn take_line(&mut self, alloc: Global, line: &[u8]) -> Result<(), GridFault>
         requires some { 1 ≤ self.old.columns }
-        requires room { self.old.found + length (cell_words line.now) + 1 < 2 ^ 64 }
+        requires room { self.old.found + length (gap_words line.now) + 1 < 2 ^ 64 }
         ensures columns { OnOk result (self.new.columns ≡ self.old.columns) }
         ensures total { OnOk result (self.new.total ≡ self.old.total) }
-        ensures found { OnOk result (self.new.found ≡ self.old.found + length (cell_words line.now)) }
-        ensures taken { OnOk result ((parts : List (List ℕ)) → HasTaken self.old parts → HasTaken self.new (parts ++ cell_words line.now)) }
-        ensures fault { IfErr result (λ f. (parts more : List (List ℕ)) → HasTaken self.old parts → IsCellFault self.old.columns self.old.total (parts ++ cell_words line.now ++ more) f) }
+        ensures found { OnOk result (self.new.found ≡ self.old.found + length (gap_words line.now)) }
+        ensures taken { OnOk result ((parts : List (List ℕ)) → HasTaken self.old parts → HasTaken self.new (parts ++ gap_words line.now)) }
+        ensures fault { IfErr result (λ f. (parts more : List (List ℕ)) → HasTaken self.old parts → IsCellFault self.old.columns self.old.total (parts ++ gap_words line.now ++ more) f) }
     {
-        let parts = Parts::of_cells(alloc, line)?;
+        let parts = Parts::between_gaps(alloc, line)?;
         for at in 0..parts.count() {
             if let Err(fault) = self.take_word(parts.at(at)) {
                 return Err(fault);

@@ -36,17 +36,17 @@ impl Model for Draft {
 ghost use Rattle.std.specs.Prelude.{◌≡◌, ◌<◌, ◌≤◌, ◌*◌, true, false, IfOk, IfErr, OnOk, length, map};
 ghost use Rattle.std.specs.Char.{to_ascii_lowercase};
 ghost use Rattle.grid_reader.specs.Header.{Head, no_head, name_in, is_named, Sets, SetsColumns, SetsRows, SetsLeft, SetsLow, SetsSize, SetsNodata, AddsWords, IsHeaderFault};
-ghost use Rattle.grid_reader.specs.Words.{word};
+ghost use Rattle.text_words.specs.Words.{word};
 ghost use Rattle.grid_reader.specs.Reading.{UnlessMemory};
 ghost use Rattle.grid_reader.specs.Whole.{SaysWhole, IsEndFault};
 
 use crate::GridFault;
 use crate::number::{read_cell, read_corner, read_count, read_size};
 use crate::whole::Whole;
-use crate::words::Parts;
 use agg_base::NoMemory;
 use plane_edge::{Frame, Limit};
 use std::alloc::Global;
+use text_words::Parts;
 
 // Whether a text is that lower-case word, in upper or lower case.
 fn is_named(text: &[u8], word: &[u8]) -> bool
@@ -250,21 +250,11 @@ impl Draft {
             nodata,
         } = self;
         let lacking = GridFault::Header { line: number };
-        let Some(columns) = columns else {
-            return Err(lacking);
-        };
-        let Some(rows) = rows else {
-            return Err(lacking);
-        };
-        let Some(left) = left else {
-            return Err(lacking);
-        };
-        let Some(low) = low else {
-            return Err(lacking);
-        };
-        let Some(size) = size else {
-            return Err(lacking);
-        };
+        let columns = columns.ok_or(lacking)?;
+        let rows = rows.ok_or(lacking)?;
+        let left = left.ok_or(lacking)?;
+        let low = low.ok_or(lacking)?;
+        let size = size.ok_or(lacking)?;
         if u64::from(columns) * u64::from(rows) > 524_288 {
             return Err(GridFault::Limit(Limit::Cells));
         }

@@ -31,10 +31,10 @@ pub enum GridFault {
         /// The cell's column; the left column is column 0.
         column: u32,
     },
-    /// The number of cells is not the number of columns times the number of rows.
+    /// The number of words behind the header is not the number of columns times the number of rows.
     #[error("the grid has {found} cells, which is not columns times rows")]
     Count {
-        /// How many cells there are.
+        /// How many words there are behind the header.
         found: u64,
     },
     /// The grid has more than 524,288 cells, or more than 65,536 patches.

@@ -7,9 +7,9 @@ ghost use Rattle.grid_reader.specs.Reading.{EndsHeader, FailsHeader, UnlessMemor
 
 use crate::GridFault;
 use crate::draft::Draft;
-use crate::words::Parts;
 use agg_base::{Line, Lines};
 use std::alloc::Global;
+use text_words::Parts;
 
 // Takes the lines of the header, and gives the first line of cells.
 pub(crate) fn read_header<'a>(

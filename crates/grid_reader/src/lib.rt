@@ -16,7 +16,6 @@ mod patches;
 mod reader;
 mod rings;
 mod whole;
-mod words;
 
 pub use fault::GridFault;
 pub use laws::{frame_law, grid_or_fault, grid_without_fault, one_fault, one_grid};

@@ -1,12 +1,11 @@
 // Numbers that a grid spells.
 ghost use Rattle.std.specs.Prelude.{◌≡◌, slice_index, ℕ, ℤ, IfSome, IfNone};
-ghost use Rattle.std.specs.Bool.{Decides};
-ghost use Rattle.std.specs.Str.Parse.{AllDigits};
 ghost use Rattle.grid_reader.specs.Numbers.{IsCount, SpellsCell, IsCornerText, IsSizeText};
 
 use agg_base::{Whole, read_whole};
 use json_text::is_number;
 use std::str;
+use text_words::has_digits_only;
 
 // The number from 1 to 524,288 that digits spell.
 pub(crate) fn read_count(text: &[u8]) -> Option<u32>
@@ -26,13 +25,6 @@ pub(crate) fn read_count(text: &[u8]) -> Option<u32>
         return None;
     }
     Some(number)
-}
-
-// Whether each byte is a digit.
-pub(crate) fn has_digits_only(text: &[u8]) -> bool
-    ensures { Decides result (AllDigits 10 text.now) }
-{
-    text.iter().all(|byte| byte.is_ascii_digit())
 }
 
 // The whole number at most 2,147,483,647 from 0 that a text spells.

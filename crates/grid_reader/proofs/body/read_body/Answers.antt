@@ -1,7 +1,7 @@
 use Rattle.std.proofs.Common.{◌++◌, ℕ, [], Option, sym, subst}
 use Rattle.agg_base.specs.declared.line.Line.{Line}
 use Rattle.agg_base.specs.Lines.{rows_left}
-use Rattle.grid_reader.specs.Words.{cell_words}
+use Rattle.text_words.specs.Words.{gap_words}
 use Rattle.grid_reader.specs.Cells.{body_words}
 use Rattle.grid_reader.specs.Faults.{IsCellFault}
 use Rattle.grid_reader.specs.Body.{body_of, IsBodyFault}
@@ -12,7 +12,7 @@ use Rattle.grid_reader.proofs.body.read_body.Goals as goal
 pub returns-in-Err-clause-fault : goal.returns-in-Err-clause-fault
 returns-in-Err-clause-fault c =
     let more = body_words (rows_left c.args.rest.now) in
-    let parts = cell_words c.in-Some.line.text.now ++ more in
+    let parts = gap_words c.in-Some.line.text.now ++ more in
     let fault = c.in-Err.fault in
     let here : IsCellFault c.start-cells.result.columns c.start-cells.result.total parts fault = c.in-Err.ensures.fault [] more c.start-cells.ensures.taken in
     let same : IsCellFault c.args.columns c.args.total parts fault

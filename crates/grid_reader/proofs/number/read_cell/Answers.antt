@@ -1,6 +1,6 @@
 use Rattle.std.proofs.Common.{arith, refl}
 use Rattle.std.proofs.lemmas.Int.{ints}
-use Rattle.grid_reader.proofs.Digits.{one_cell}
+use Rattle.grid_reader.proofs.OneCell.{one_cell}
 use Rattle.grid_reader.proofs.number.read_cell.Goals as goal
 
 pub returns-then-value-ltminus2147483647-clause-none : goal.returns-then-value-ltminus2147483647-clause-none

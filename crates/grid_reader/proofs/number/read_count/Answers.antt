@@ -1,4 +1,4 @@
-use Rattle.grid_reader.proofs.Digits.{digits_are_text}
+use Rattle.text_words.proofs.Digits.{digits_are_text}
 use Rattle.grid_reader.proofs.number.read_count.Goals as goal
 
 pub returns-in_default-clause-none : goal.returns-in_default-clause-none

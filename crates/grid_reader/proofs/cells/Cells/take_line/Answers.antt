@@ -1,12 +1,12 @@
 use Rattle.std.proofs.Common.{◌≡◌, ◌+◌, ◌++◌, ◌∷◌, ◌<◌, ℕ, List, length, take, drop, ap, ◌∙◌, subst, arith}
-use Rattle.grid_reader.specs.Words.{cell_words, word}
+use Rattle.text_words.specs.Words.{gap_words, word}
 use Rattle.grid_reader.specs.Faults.{IsCellFault}
 use Rattle.grid_reader.proofs.CellLemmas.{split_at}
 use Rattle.grid_reader.proofs.cells.Cells.take_line.Goals as goal
 
 pub returns-in-Err-clause-fault : goal.returns-in-Err-clause-fault
 returns-in-Err-clause-fault c = λ parts more taken.
-    let ws = cell_words c.args.line.now in
+    let ws = gap_words c.args.line.now in
     let at = c.loop-at.at in
     let w = c.at.result.now in
     let fault = c.in-Err.fault in

@@ -1,5 +1,5 @@
 use Rattle.std.proofs.Common.{◌≡◌, ◌+◌, ◌++◌, ℕ, List, take}
-use Rattle.grid_reader.specs.Words.{cell_words}
+use Rattle.text_words.specs.Words.{gap_words}
 use Rattle.grid_reader.specs.Cells.{HasTaken}
 use Rattle.grid_reader.proofs.cells.Cells.take_line.Given as goal
 
@@ -8,5 +8,5 @@ invariant-loop-at l = record {
   columns_kept : l.self.columns ≡ l.initial.self.columns;
   total_kept : l.self.total ≡ l.initial.self.total;
   counted : l.self.found ≡ l.initial.self.found + l.at;
-  taken : (before : List (List ℕ)) → HasTaken l.initial.self before → HasTaken l.self (before ++ take l.at (cell_words l.line));
+  taken : (before : List (List ℕ)) → HasTaken l.initial.self before → HasTaken l.self (before ++ take l.at (gap_words l.line));
 }

@@ -1,6 +1,6 @@
 use Rattle.std.proofs.Common.{◌≡◌, ◌++◌, ℕ, List, ap, sym, ◌∙◌, subst, append_assoc}
 use Rattle.agg_base.specs.Lines.{Row, rows_left}
-use Rattle.grid_reader.specs.Words.{cell_words}
+use Rattle.text_words.specs.Words.{gap_words}
 use Rattle.grid_reader.specs.Cells.{body_words}
 use Rattle.grid_reader.specs.Faults.{IsCellFault}
 use Rattle.grid_reader.proofs.cells.Cells.take_lines.Goals as goal
@@ -8,7 +8,7 @@ use Rattle.grid_reader.proofs.cells.Cells.take_lines.Goals as goal
 pub returns-in-Err-clause-fault : goal.returns-in-Err-clause-fault
 returns-in-Err-clause-fault c = λ parts taken.
     let so_far = c.loop-line.invariant.taken parts taken in
-    let words = cell_words c.in-Some.line.text.now in
+    let words = gap_words c.in-Some.line.text.now in
     let more = body_words (rows_left c.next.new.self) in
     let fault = c.in-Err.fault in
     let here : IsCellFault c.loop-line.self.columns c.loop-line.self.total (so_far.0 ++ words ++ more) fault = c.in-Err.ensures.fault so_far.0 more so_far.1 in
