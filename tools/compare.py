@@ -1,9 +1,10 @@
 #!/usr/bin/env python3
 """Compares the program with the second implementation on random maps and tables: compare.py PROGRAM RUNS SEED
 
-In about a third of the runs a text is changed at random places, so that refusals are compared too. The written map is held against the
-certificate: the middle of each cell lies in the drawn region of the cell's area and in no other, and in none where there is no data. It
-prints the first run that differs, or how many agreed, by exit code. It takes no part in any proof.
+Exit codes, said texts, certificates and written maps are compared byte by byte. In about a third of the runs a text is changed at random
+places, so that refusals are compared too. Beside that the written map is held against the certificate: the middle of each cell lies in the
+drawn region of the cell's area and in no other, and in none where there is no data. It prints the first run that differs, or how many
+agreed, by exit code. It takes no part in any proof.
 """
 import collections
 import json
@@ -83,7 +84,7 @@ def bytes_of(path):
 
 
 def run(program, folder, map_text, table_text):
-    """What the program ends with and says, and the bytes of the certificate; the bytes of the map."""
+    """What the program ends with and says, and the bytes of the certificate and of the map."""
     names = {name: os.path.join(folder, name) for name in "mtoc"}
     for name, text in (("m", map_text), ("t", table_text)):
         with open(names[name], "wb") as file:
@@ -93,7 +94,7 @@ def run(program, folder, map_text, table_text):
             os.remove(names[name])
     words = [program, "generalise", "grid"] + [names[name] for name in "mtoc"] + ["--splits", "0"]
     done = subprocess.run(words, capture_output=True, check=False)
-    return (done.returncode, done.stdout, bytes_of(names["c"])), bytes_of(names["o"])
+    return done.returncode, done.stdout, bytes_of(names["c"]), bytes_of(names["o"])
 
 
 def rings_of(topology):
@@ -122,9 +123,9 @@ def holds(rings, x, y):
 
 def is_drawn(map_text, certificate, out):
     """Whether the written map has the regions of the certificate, cell by cell."""
-    if b"status none" in certificate:
-        return out is None
-    columns, rows, nodata, cells = read_grid(map_text)
+    if out is None:
+        return certificate is None or b"status none" in certificate
+    columns, rows, nodata, cells, _ = read_grid(map_text)
     patch, _ = patches_of(columns, rows, nodata, cells)
     region_of = [int(line[2:]) for line in certificate.decode().split("\n") if line.startswith("a ")]
     drawn = rings_of(json.loads(out))
@@ -148,10 +149,9 @@ def main():
                 map_text = changed(dice, map_text)
             if dice.random() < 0.2:
                 table_text = changed(dice, table_text)
-            (got, out), due = run(program, folder, map_text, table_text), answer(map_text, table_text)
-            right = out is None if got[2] is None else is_drawn(map_text, got[2], out)
-            if got != due or not right:
-                print(f"map {map_text!r}\ntable {table_text!r}\nprogram {got!r}\nmap {out!r}\nreference {due!r}")
+            got, due = run(program, folder, map_text, table_text), answer(map_text, table_text)
+            if got != due or not is_drawn(map_text, got[2], got[3]):
+                print(f"map {map_text!r}\ntable {table_text!r}\nprogram {got!r}\nreference {due!r}")
                 sys.exit(1)
             codes[got[0], got[1].split(b"\n")[0].decode() if got[0] == 65 else ""] += 1
     for (code, line), count in sorted(codes.items()):

@@ -25,7 +25,7 @@ def path_of(rings, left, rows):
 
 
 def cell_shapes(grid, colour_of):
-    columns, rows, nodata, cells = grid
+    columns, rows, nodata, cells, _ = grid
     for row in range(rows):
         column = 0
         while column < columns:
@@ -48,7 +48,7 @@ def main():
         grid = read_grid(file.read())
     with open(sys.argv[2], encoding="utf-8") as file:
         topology = json.load(file)
-    columns, rows, nodata, cells = grid
+    columns, rows, nodata, cells, _ = grid
     classes = sorted({cell for cell in cells if cell != nodata})
     colour_of = {str(value): COLOURS[i % len(COLOURS)] for i, value in enumerate(classes)}
     left = columns * SIDE + GAP

@@ -1,11 +1,13 @@
 #!/usr/bin/env python3
 """A second implementation of `generalise grid MAP TABLE OUT CERT --splits 0`, written apart from the program to compare it with.
 
-It is slow and plain, it proves nothing, and nothing in the program stands on it. `answer(map, table)` gives the exit code, the said text
-and the certificate, or None where nothing is stored.
+It is slow and plain, it proves nothing, and nothing in the program stands on it. `answer(map, table)` gives the exit code, the said text,
+the certificate and the written map, or None where there is none.
 """
 import math
 import re
+
+from layout import edge, map_text
 
 LETTERS = set(b"abcdefghijklmnopqrstuvwxyzABCDEFGHIJKLMNOPQRSTUVWXYZ")
 JSON_NUMBER = re.compile(rb"-?(0|[1-9][0-9]*)(\.[0-9]+)?([eE][+-]?[0-9]+)?\Z")
@@ -55,7 +57,7 @@ def header_value(name, word):
 
 
 def read_grid(text):
-    """Columns, rows, the value for no data, and the cells from the top row on."""
+    """Columns, rows, the value for no data, the cells from the top row on, and the four texts of the frame."""
     names = (b"ncols", b"nrows", b"xllcorner", b"yllcorner", b"cellsize", b"nodata_value")
     head, rows = {}, lines(text)
     at = 0
@@ -86,7 +88,8 @@ def read_grid(text):
         cells.append(value)
     if len(words) != total:
         raise Refused(f"map Count {len(words)}")
-    return columns, head[b"nrows"], head.get(b"nodata_value", -9999), cells
+    frame = [head[name].decode() for name in (b"cellsize", b"cellsize", b"xllcorner", b"yllcorner")]
+    return columns, head[b"nrows"], head.get(b"nodata_value", -9999), cells, frame
 
 
 def patches_of(columns, rows, nodata, cells):
@@ -248,7 +251,7 @@ def certificate_of(status, cost, bound, areas, regions, region_of, leaf):
 
 
 def solve(problem):
-    """The exit code, status, cost and bound, the certificate, and the number of regions."""
+    """The exit code, the status with cost and bound, the certificate, the class of each region, and the region of each area."""
     part = problem.parts()
     members = {}
     for area, least in enumerate(part):
@@ -260,24 +263,40 @@ def solve(problem):
             own = members[least]
             leaf = [f"v {classes}"]
             leaf += [f"e 1 {least} {k} {len(own)} " + " ".join(map(str, own)) for k in range(classes)]
-            return 4, ("none", "-", "-"), certificate_of("none", "-", "-", problem.areas, [], [], leaf), 0
+            return 4, ("none", "-", "-"), certificate_of("none", "-", "-", problem.areas, [], [], leaf), [], []
         cost += best[0]
         regions.append(best[1])
     number_of = {least: r for r, least in enumerate(sorted(members))}
+    region_of = [number_of[least] for least in part]
     status = "optimal" if cost == 0 else "within"
     leaf = ["f"] if classes == 1 or problem.areas == 0 else ["c 1 0"]
-    text = certificate_of(status, cost, 0, problem.areas, regions, [number_of[least] for least in part], leaf)
-    return (0 if cost == 0 else 3), (status, cost, 0), text, len(regions)
+    text = certificate_of(status, cost, 0, problem.areas, regions, region_of, leaf)
+    return (0 if cost == 0 else 3), (status, cost, 0), text, regions, region_of
 
 
-def answer(map_text, table_text):
-    """The exit code, the said text and the certificate for the bytes of a map and a table."""
+def borders_of(columns, rows, patch, region_of, count):
+    """The border edges of each region: the sides of its cells that no other cell of it has."""
+    borders = [set() for _ in range(count)]
+    for place, area in enumerate(patch):
+        if area is not None:
+            x, y = place % columns, rows - 1 - place // columns
+            corners = [(x, y), (x + 1, y), (x + 1, y + 1), (x, y + 1)]
+            borders[region_of[area]] ^= {edge(a, b) for a, b in zip(corners, corners[1:] + corners[:1])}
+    return borders
+
+
+def answer(map_bytes, table_bytes):
+    """The exit code, the said text, the certificate and the written map for the bytes of a map and a table."""
     try:
-        columns, rows, nodata, cells = read_grid(map_text)
+        columns, rows, nodata, cells, frame = read_grid(map_bytes)
         patch, areas = patches_of(columns, rows, nodata, cells)
-        problem = Problem(columns, cells, patch, areas, Table(table_text))
+        problem = Problem(columns, cells, patch, areas, Table(table_bytes))
     except Refused as refusal:
-        return 65, f"refused: {refusal}\n".encode(), None
-    code, (status, cost, bound), text, regions = solve(problem)
-    report = f"{status}\nareas {problem.areas}\npassed 0\nregions {regions}\ncost {cost}\nbound {bound}\nsplits 0\n"
-    return code, report.encode(), text
+        return 65, f"refused: {refusal}\n".encode(), None, None
+    code, (status, cost, bound), text, regions, region_of = solve(problem)
+    counts = f"areas {areas}\npassed 0\nregions {len(regions)}\n"
+    report = f"{status}\n{counts}cost {cost}\nbound {bound}\nsplits 0\n".encode()
+    if status == "none":
+        return code, report, text, None
+    names = [problem.table.names[k].decode() for k in regions]
+    return code, report, text, map_text(borders_of(columns, rows, patch, region_of, len(regions)), names, frame)
