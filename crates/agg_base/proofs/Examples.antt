@@ -2,21 +2,21 @@
 use Rattle.std.proofs.Common.{◌≡◌, [], ◌∷◌, refl}
 use Rattle.agg_base.specs.Lines.{rows_from}
 use Rattle.agg_base.specs.Root.{squares_within}
-use Rattle.agg_base.specs.Texts.{ended, spaced}
+use Rattle.agg_base.specs.Texts.{text_of_lines, text_of_words}
 
 -- the lines `a` and the empty one
-ended_lines : ended ((97 ∷ []) ∷ [] ∷ []) ≡ 97 ∷ 10 ∷ 10 ∷ []
+ended_lines : text_of_lines ((97 ∷ []) ∷ [] ∷ []) ≡ 97 ∷ 10 ∷ 10 ∷ []
 ended_lines = refl
 
 -- the words `a`, `bc` and the empty one
-spaced_words : spaced ((97 ∷ []) ∷ (98 ∷ 99 ∷ []) ∷ [] ∷ []) ≡ 97 ∷ 32 ∷ 98 ∷ 99 ∷ 32 ∷ []
+spaced_words : text_of_words ((97 ∷ []) ∷ (98 ∷ 99 ∷ []) ∷ [] ∷ []) ≡ 97 ∷ 32 ∷ 98 ∷ 99 ∷ 32 ∷ []
 spaced_words = refl
 
 -- no word and one word have no space
-no_words : spaced [] ≡ []
+no_words : text_of_words [] ≡ []
 no_words = refl
 
-one_word : spaced ((97 ∷ []) ∷ []) ≡ 97 ∷ []
+one_word : text_of_words ((97 ∷ []) ∷ []) ≡ 97 ∷ []
 one_word = refl
 
 no_lines : rows_from 1 [] ≡ []

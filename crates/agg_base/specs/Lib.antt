@@ -2,3 +2,4 @@ pub mod Lines
 pub mod Numbers
 pub mod Root
 pub mod Texts
+pub mod Lists

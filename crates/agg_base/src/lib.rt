@@ -4,6 +4,7 @@
 #![tactic(auto)]
 
 mod cut;
+pub mod limits;
 mod line;
 mod numeral;
 mod root;

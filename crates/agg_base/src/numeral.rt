@@ -27,14 +27,14 @@ pub fn read_whole(text: &[u8]) -> Whole
     ensures inside { (n : ℤ) → SpellsWhole text.now n → FitsSigned w64 n → result ≡ Whole.Is n }
     ensures outside { (n : ℤ) → SpellsWhole text.now n → ¬ (FitsSigned w64 n) → result ≡ Whole.Beyond }
 {
-    read_number(without_zeros(text))
+    read_number(strip_zeros(text))
 }
 
 // The number of a text of an optional minus and digits.
 fn read_number(text: &[u8]) -> Whole
     ensures { IsWholeAnswer (SpellsNumber text.now) result }
 {
-    if !are_digits(without_minus(text)) {
+    if !are_digits(strip_minus(text)) {
         return Whole::Not;
     }
     let Ok(number) = str::from_utf8(text) else {
@@ -47,7 +47,7 @@ fn read_number(text: &[u8]) -> Whole
 }
 
 // The text behind a leading minus.
-fn without_minus(text: &[u8]) -> &[u8]
+fn strip_minus(text: &[u8]) -> &[u8]
     ensures { result.now ≡ cond (slice_index text.now 0 == 45) (drop 1 text.now) text.now }
 {
     match text {
@@ -60,18 +60,18 @@ fn without_minus(text: &[u8]) -> &[u8]
 fn are_digits(text: &[u8]) -> bool
     ensures { IsTrue result ↔ ((0 < length text.now) × (list_all is_ascii_digit text.now ≡ true)) }
 {
-    !text.is_empty() && all_digits(text)
+    !text.is_empty() && has_only_digits(text)
 }
 
 // Whether each byte is a digit.
-fn all_digits(text: &[u8]) -> bool
+fn has_only_digits(text: &[u8]) -> bool
     ensures { result ≡ list_all is_ascii_digit text.now }
 {
     text.iter().all(|byte| byte.is_ascii_digit())
 }
 
 // The text without a point that only zeros stand behind.
-fn without_zeros(text: &[u8]) -> &[u8]
+fn strip_zeros(text: &[u8]) -> &[u8]
     ensures parts { (zeros : ℕ) × (text.now ≡ result.now ++ zeros_text zeros) }
     ensures front { (front : List ℕ) (zeros : ℕ) → ((i : ℕ) → slice_index front i ≢ 46) → text.now ≡ front ++ zeros_text zeros → result.now ≡ front }
 {
@@ -89,11 +89,11 @@ fn without_zeros(text: &[u8]) -> &[u8]
 fn are_zeros(text: &[u8]) -> bool
     ensures { IsTrue result ↔ ((0 < length text.now) × (list_all (λ byte. byte == 48) text.now ≡ true)) }
 {
-    !text.is_empty() && all_zeros(text)
+    !text.is_empty() && has_only_zeros(text)
 }
 
 // Whether each byte is a zero.
-fn all_zeros(text: &[u8]) -> bool
+fn has_only_zeros(text: &[u8]) -> bool
     ensures { result ≡ list_all (λ byte. byte == 48) text.now }
 {
     text.iter().all(|byte| *byte == b'0')

@@ -1,6 +1,7 @@
 // Worked values of each public call.
 ghost use Rattle.std.specs.Prelude.{◌≤◌, length};
 
+use crate::limits::TEXT_BYTES;
 use crate::{
     Ending, NoMemory, Text, Whole, Words, isqrt, lines, print_signed, read_signed, read_whole,
 };
@@ -107,7 +108,7 @@ fn numbers_are_appended(rt: HostRuntime) -> Result<(), Fail> {
 
 // The number, the length without the ending and the ending of each line.
 fn rows(alloc: Global, text: &[u8]) -> Result<Vec<(u32, usize, Ending)>, NoMemory>
-    requires { length text.now ≤ 536870912 }
+    requires { length text.now ≤ TEXT_BYTES }
 {
     let mut rows = Vec::new(alloc);
     for line in lines(text) {

@@ -1,14 +1,15 @@
 -- Costs stay small.
-use Rattle.std.proofs.Common.{◌≡◌, ℕ, zero, suc, ◌*◌, ◌^◌, ◌<◌, ◌≤◌, length, ap, sym, ◌∙◌, arith, inl, inr, subst}
-use Rattle.std.specs.Prelude.{Bool, true, false, ◌==◌, ℤ, pos, negsuc, ◌+ℤ◌, ◌*ℤ◌, ◌≤ℤ◌, ◌<ℤ◌, FitsSigned}
+use Rattle.std.proofs.Common.{◌≡◌, ℕ, zero, suc, ◌+◌, ◌*◌, ◌^◌, ◌<◌, ◌≤◌, length, ap, sym, ◌∙◌, arith, inl, inr, subst}
+use Rattle.std.specs.Prelude.{slice_index, Bool, true, false, ◌==◌, ℤ, pos, negsuc, ◌+ℤ◌, ◌*ℤ◌, ◌≤ℤ◌, ◌<ℤ◌, FitsSigned}
 use Rattle.std.specs.Int.{w128}
 use Rattle.std.proofs.Math.Nat.{mul-le-mul_left}
 use Rattle.std.proofs.lemmas.Int.{ints, to_z-of_z}
 use mir.Val.{to_z, of_z}
 use lib.IntN.{*ℤ_comm}
 use Rattle.std.proofs.lemmas.Bool.{cases_lt}
+use Rattle.std.proofs.lemmas.List.{get_or_past}
 use Rattle.whole_ring.specs.Sums.{sum_below, when}
-use Rattle.agg_model.specs.Plan.{Plan, Groups, IsPlan, IsNumbered, areas, weight_of, length_of, distance_of, own_of, class_at, region_weight, region, recolouring, border_below, crosses, cost}
+use Rattle.agg_model.specs.Problem.{Problem, Grouping, IsProblem, IsNumbered, areas, weight_of, length_of, distance_of, own_of, class_at, region_weight, region, recolouring, border_below, is_between_regions, recolouring_below, cost, CostLaw}
 use Rattle.whole_ring.proofs.Signs.{nonneg-mul}
 use Rattle.whole_ring.proofs.Sums.{sum_below-nonnegative, sum_below-le}
 
@@ -25,14 +26,14 @@ sum_below-part (suc n) i f h nonneg =
           omega (arith, ints))
     ]
 
-pub weights_nonnegative : (p : Plan) → IsPlan p → (v : ℕ) → v < areas p → pos 0 ≤ℤ weight_of p v
+pub weights_nonnegative : (p : Problem) → IsProblem p → (v : ℕ) → v < areas p → pos 0 ≤ℤ weight_of p v
 weights_nonnegative p ok v h = let w = ok.heavy v h in omega (arith, ints)
 
-pub record AreSmall (p : Plan) : Type 0 where
+pub record AreSmall (p : Problem) : Type 0 where
   pub weights : sum_below (areas p) (weight_of p) <ℤ pos (2 ^ 97)
   pub lengths : sum_below (length p.links) (length_of p) <ℤ pos (2 ^ 97)
 
-pub sums_are_small : (p : Plan) → IsPlan p → AreSmall p
+pub sums_are_small : (p : Problem) → IsProblem p → AreSmall p
 sums_are_small p ok =
     let w = sum_below-nonnegative (areas p) (weight_of p) (weights_nonnegative p ok) in
     let l = sum_below-nonnegative (length p.links) (length_of p) ok.lengths in
@@ -40,10 +41,10 @@ sums_are_small p ok =
     record { weights = omega (arith, ints); lengths = omega (arith, ints) }
 
 -- one weight and a part of the weights are at most all of them
-pub weight_at_most : (p : Plan) → IsPlan p → (v : ℕ) → v < areas p → (sum_below v (weight_of p) +ℤ weight_of p v) ≤ℤ sum_below (areas p) (weight_of p)
+pub weight_at_most : (p : Problem) → IsProblem p → (v : ℕ) → v < areas p → (sum_below v (weight_of p) +ℤ weight_of p v) ≤ℤ sum_below (areas p) (weight_of p)
 weight_at_most p ok v h = sum_below-part (areas p) (suc v) (weight_of p) h (weights_nonnegative p ok)
 
-pub length_at_most : (p : Plan) → IsPlan p → (l : ℕ) → l < length p.links → (sum_below l (length_of p) +ℤ length_of p l) ≤ℤ sum_below (length p.links) (length_of p)
+pub length_at_most : (p : Problem) → IsProblem p → (l : ℕ) → l < length p.links → (sum_below l (length_of p) +ℤ length_of p l) ≤ℤ sum_below (length p.links) (length_of p)
 length_at_most p ok l h = sum_below-part (length p.links) (suc l) (length_of p) h ok.lengths
 
 -- a product that fits
@@ -58,7 +59,7 @@ product_of (pos w) d h k near =
     record { fits = omega (arith, ints); least = omega (arith, ints); most = omega (arith, ints) }
 product_of (negsuc w) d h k near = absurd (omega (arith, ints))
 
-pub one_weight : (p : Plan) → IsPlan p → (v : ℕ) → v < areas p → (pos 0 ≤ℤ weight_of p v) × (weight_of p v <ℤ pos (2 ^ 97))
+pub one_weight : (p : Problem) → IsProblem p → (v : ℕ) → v < areas p → (pos 0 ≤ℤ weight_of p v) × (weight_of p v <ℤ pos (2 ^ 97))
 one_weight p ok v h =
     let all = sums_are_small p ok in
     let here = weight_at_most p ok v h in
@@ -103,37 +104,70 @@ when_at_most true x h = omega (arith, ints)
 when_at_most false x h = h
 
 -- no recolouring costs less than 0
-pub recolouring_nonnegative : (p : Plan) → IsPlan p → (v k : ℕ) → v < areas p → pos 0 ≤ℤ recolouring p v k
+pub recolouring_nonnegative : (p : Problem) → IsProblem p → (v k : ℕ) → v < areas p → pos 0 ≤ℤ recolouring p v k
 recolouring_nonnegative p ok v k h =
     nonneg-mul (weight_of p v) (distance_of p (own_of p v) k) (weights_nonnegative p ok v h) (omega (arith, ints))
 
-pub cost_law : (p : Plan) (g : Groups) → IsPlan p → IsNumbered p g → pos 0 ≤ℤ cost p g
-unfolding cost
-cost_law p g ok _ =
-    let r = sum_below-nonnegative (areas p) (λ v. recolouring p v (class_at g v)) (λ v h. recolouring_nonnegative p ok v (class_at g v) h) in
-    let b = sum_below-nonnegative (length p.links) (λ l. when (crosses p g l) (length_of p l)) (λ l h. when_nonnegative (crosses p g l) (length_of p l) (ok.lengths l h)) in
-    let c = nonneg-mul (pos p.border) (border_below p g (length p.links)) (omega (arith, ints)) b in
+-- a distance is at most 10,000
+near_at : (p : Problem) → IsProblem p → (i : ℕ) → slice_index p.distance i ≤ 10000
+near_at p ok i =
+    elim (cases_lt i (length p.distance)) [
+      | inl h ↦ ok.near i h
+      | inr h ↦ (let e = get_or_past p.distance i 0 h in omega arith)
+    ]
+
+-- no recolouring costs more than 10,000 times the weight
+pub recolouring_most : (p : Problem) → IsProblem p → (v k : ℕ) → v < areas p → recolouring p v k ≤ℤ (pos 10000 *ℤ weight_of p v)
+recolouring_most p ok v k h =
+    let one = one_weight p ok v h in
+    (product_of (weight_of p v) (slice_index p.distance (own_of p v * p.classes + k)) one.0 one.1 (near_at p ok (own_of p v * p.classes + k))).most
+
+recolouring_below_most : (p : Problem) (g : Grouping) → IsProblem p → (n : ℕ) → n ≤ areas p → recolouring_below p g n ≤ℤ (pos 10000 *ℤ sum_below n (weight_of p))
+recolouring_below_most p g ok zero h = omega (arith, ints)
+recolouring_below_most p g ok (suc n) h =
+    let before = recolouring_below_most p g ok n (omega arith) in
+    let here = recolouring_most p ok n (class_at g n) (omega arith) in
     omega (arith, ints)
 
+-- what the border between regions costs
+borders_most : (p : Problem) (g : Grouping) → IsProblem p → border_below p g (length p.links) ≤ℤ sum_below (length p.links) (length_of p)
+borders_most p g ok =
+    sum_below-le (length p.links) (λ l. when (is_between_regions p g l) (length_of p l)) (length_of p) (λ l h. when_at_most (is_between_regions p g l) (length_of p l) (ok.lengths l h))
+
+pub cost_law : CostLaw
+unfolding cost
+cost_law p g ok _ =
+    let all = sums_are_small p ok in
+    let lengths = all.lengths in
+    let whole = ok.small in
+    let r = sum_below-nonnegative (areas p) (λ v. recolouring p v (class_at g v)) (λ v h. recolouring_nonnegative p ok v (class_at g v) h) in
+    let most = recolouring_below_most p g ok (areas p) (omega arith) in
+    let b = sum_below-nonnegative (length p.links) (λ l. when (is_between_regions p g l) (length_of p l)) (λ l h. when_nonnegative (is_between_regions p g l) (length_of p l) (ok.lengths l h)) in
+    let border = borders_most p g ok in
+    let c = nonneg-mul (pos p.border) (border_below p g (length p.links)) (omega (arith, ints)) b in
+    let d = (product_of (border_below p g (length p.links)) p.border b (omega (arith, ints)) ok.cheap).most in
+    let turned = *ℤ_comm (border_below p g (length p.links)) (pos p.border) in
+    (omega (arith, ints), omega (arith, ints))
+
 -- each weight is a part of all weights
-pub weight_in_all : (p : Plan) → IsPlan p → (v : ℕ) → v < areas p → weight_of p v ≤ℤ sum_below (areas p) (weight_of p)
+pub weight_in_all : (p : Problem) → IsProblem p → (v : ℕ) → v < areas p → weight_of p v ≤ℤ sum_below (areas p) (weight_of p)
 weight_in_all p ok v h =
     let here = weight_at_most p ok v h in
     let before = sum_below-nonnegative v (weight_of p) (λ i q. weights_nonnegative p ok i (omega arith)) in
     omega (arith, ints)
 
 -- a region weighs at most as much as all areas
-pub region_at_most : (p : Plan) → IsPlan p → (g : Groups) (r : ℕ) → region_weight p g r ≤ℤ sum_below (areas p) (weight_of p)
+pub region_at_most : (p : Problem) → IsProblem p → (g : Grouping) (r : ℕ) → region_weight p g r ≤ℤ sum_below (areas p) (weight_of p)
 region_at_most p ok g r =
     sum_below-le (areas p) (λ v. when (region g v == r) (weight_of p v)) (weight_of p) (λ v h. when_at_most (region g v == r) (weight_of p v) (weights_nonnegative p ok v h))
 
 -- a region weighs 0 or more
-pub region_nonnegative : (p : Plan) → IsPlan p → (g : Groups) (r : ℕ) → pos 0 ≤ℤ region_weight p g r
+pub region_nonnegative : (p : Problem) → IsProblem p → (g : Grouping) (r : ℕ) → pos 0 ≤ℤ region_weight p g r
 region_nonnegative p ok g r =
     sum_below-nonnegative (areas p) (λ v. when (region g v == r) (weight_of p v)) (λ v h. when_nonnegative (region g v == r) (weight_of p v) (weights_nonnegative p ok v h))
 
 -- all areas together weigh at least as much as there are areas
-pub count_at_most : (p : Plan) → IsPlan p → (n : ℕ) → n ≤ areas p → pos n ≤ℤ sum_below n (weight_of p)
+pub count_at_most : (p : Problem) → IsProblem p → (n : ℕ) → n ≤ areas p → pos n ≤ℤ sum_below n (weight_of p)
 count_at_most p ok zero h = omega (arith, ints)
 count_at_most p ok (suc n) h =
     let before = count_at_most p ok n (omega arith) in

@@ -3,12 +3,12 @@ use Rattle.std.proofs.Common.{◌≡◌, ℕ, zero, suc, ◌<◌, [], ◌∷◌,
 use Rattle.std.specs.Prelude.{pos, ◌≤ℤ◌}
 use Rattle.std.proofs.lemmas.Int.{ints}
 use Rattle.agg_model.specs.declared.problem.Link.{Link}
-use Rattle.agg_model.specs.Plan.{Plan, Groups, IsNumbered, IsRegion, IsFeasible, Linked, Walk, region, class_in, cost}
+use Rattle.agg_model.specs.Problem.{Problem, Grouping, IsNumbered, IsRegion, IsFeasible, AreLinked, Walk, region, class_in, cost}
 
 abbrev link_of : ℕ → ℕ → Link
 link_of a b = record { a = a; b = b; length = pos 256 }
 
-abbrev row : Plan
+abbrev row : Problem
 row = record {
   classes = 2;
   own = 0 ∷ 1 ∷ 0 ∷ [];
@@ -20,11 +20,11 @@ row = record {
 }
 
 -- one region of one class
-abbrev whole : ℕ → Groups
+abbrev whole : ℕ → Grouping
 whole k = record { region_of = 0 ∷ 0 ∷ 0 ∷ []; class_of = k ∷ [] }
 
 -- the last area apart
-abbrev apart : Groups
+abbrev apart : Grouping
 apart = record { region_of = 0 ∷ 0 ∷ 1 ∷ []; class_of = 0 ∷ 0 ∷ [] }
 
 pub whole_costs : cost row (whole 0) ≡ pos 10
@@ -43,16 +43,16 @@ apart_costs = refl
 pub apart_is_not_feasible : IsFeasible row apart → ⊥
 apart_is_not_feasible h = let heavy : pos 4 ≤ℤ pos 2 = (h.regions 1 (lit< tt)).heavy in omega (arith, ints)
 
-first : Linked row 0 1
+first : AreLinked row 0 1
 first = (0, lit< tt, inl (refl, refl))
 
-first_back : Linked row 1 0
+first_back : AreLinked row 1 0
 first_back = (0, lit< tt, inr (refl, refl))
 
-second : Linked row 1 2
+second : AreLinked row 1 2
 second = (1, lit< tt, inl (refl, refl))
 
-second_back : Linked row 2 1
+second_back : AreLinked row 2 1
 second_back = (1, lit< tt, inr (refl, refl))
 
 below : (v : ℕ) → v < 3 → region (whole 0) v < 1

@@ -1,5 +1,4 @@
 pub mod CostLemmas
 pub mod RuleLemmas
-pub mod LabelLemmas
-pub mod ForestLemmas
+pub mod PartLemmas
 mod Examples

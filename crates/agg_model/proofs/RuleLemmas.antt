@@ -2,14 +2,14 @@
 use Rattle.std.proofs.Common.{◌≡◌, ℕ, suc, ◌+◌, ◌*◌, ◌^◌, ◌<◌, ◌≤◌, length, slice_index, slice_index_or, sym, ap, subst}
 use Rattle.std.specs.Prelude.{ℤ, pos, ◌+ℤ◌, ◌≤ℤ◌, EachIndex}
 use Rattle.whole_ring.specs.Sums.{sum_below}
-use Rattle.agg_model.specs.Plan.{Plan, IsPlan, areas}
+use Rattle.agg_model.specs.Problem.{Problem, IsProblem, areas}
 use Rattle.agg_model.specs.Rules.{HasCounts, HasLengths, IsGoodLink, IsBelow, IsLight, link_in, weight_in, all_weights, all_lengths}
 
 -- a threshold is 0 to 10 ^ 30
 abbrev pub IsThreshold : ℤ → Type 0
 IsThreshold t = (pos 0 ≤ℤ t) × (t ≤ℤ pos (10 ^ 30))
 
-pub record KeepsRules (p : Plan) : Type 0 where
+pub record KeepsRules (p : Problem) : Type 0 where
   pub counts : HasCounts p
   pub lengths : HasLengths p
   pub own : EachIndex p.own (λ v. slice_index p.own v < p.classes)
@@ -21,7 +21,7 @@ pub record KeepsRules (p : Plan) : Type 0 where
   pub threshold : EachIndex p.threshold (λ k. IsThreshold (slice_index_or p.threshold k (pos 0)))
   pub light : IsLight (all_weights p.weight +ℤ all_lengths p.links)
 
-pub plan_from : (p : Plan) → KeepsRules p → IsPlan p
+pub plan_from : (p : Problem) → KeepsRules p → IsProblem p
 plan_from p h =
     let n = h.lengths.weights in
     let t = h.lengths.thresholds in
@@ -47,5 +47,5 @@ plan_from p h =
       lengths = λ l k. (h.links l k).length;
     }
 
-pub light_of : (p : Plan) → IsPlan p → IsLight (all_weights p.weight +ℤ all_lengths p.links)
+pub light_of : (p : Problem) → IsProblem p → IsLight (all_weights p.weight +ℤ all_lengths p.links)
 light_of p ok = subst (λ (m : ℕ). IsLight (sum_below m (weight_in p.weight) +ℤ all_lengths p.links)) (sym ok.weights) ok.small

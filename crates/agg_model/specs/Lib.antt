@@ -1,5 +1,3 @@
-pub mod Plan
+pub mod Problem
 pub mod Parts
 pub mod Rules
-pub mod Labels
-pub mod Forest

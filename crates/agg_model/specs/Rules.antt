@@ -1,8 +1,9 @@
 -- The rules of a problem, as its parts are tested by them.
 use Rattle.std.specs.Prelude.{◌≡◌, ℕ, ◌*◌, ◌<◌, ◌≤◌, ◌⊎◌, ◌^◌, List, length, slice_index_or, ℤ, pos, ◌*ℤ◌, ◌≤ℤ◌, ◌<ℤ◌}
+use Rattle.agg_base.specs.declared.limits.TheConstants.{AREAS, CLASSES, LINKS}
 use Rattle.whole_ring.specs.Sums.{sum_below}
 use Rattle.agg_model.specs.declared.problem.Link.{Link}
-use Rattle.agg_model.specs.Plan.{Plan, areas}
+use Rattle.agg_model.specs.Problem.{Problem, areas}
 
 -- link l of a list
 abbrev pub link_in : List Link → ℕ → Link
@@ -12,15 +13,15 @@ abbrev pub length_in : List Link → ℕ → ℤ
 length_in links l = (link_in links l).length
 
 -- the numbers of classes, areas and links and the border weight are in range
-pub record HasCounts (p : Plan) : Type 0 where
+pub record HasCounts (p : Problem) : Type 0 where
   pub some_class : 1 ≤ p.classes
-  pub few_classes : p.classes ≤ 64
-  pub few_areas : areas p ≤ 65536
-  pub few_links : length p.links ≤ 1048576
+  pub few_classes : p.classes ≤ CLASSES
+  pub few_areas : areas p ≤ AREAS
+  pub few_links : length p.links ≤ LINKS
   pub cheap : p.border ≤ 10000
 
 -- one weight for each area, one threshold for each class, one distance for each pair of classes
-pub record HasLengths (p : Plan) : Type 0 where
+pub record HasLengths (p : Problem) : Type 0 where
   pub weights : length p.weight ≡ areas p
   pub thresholds : length p.threshold ≡ p.classes
   pub distances : length p.distance ≡ p.classes * p.classes

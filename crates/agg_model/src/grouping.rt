@@ -1,6 +1,7 @@
 use crate::Problem;
-use crate::rules::all_below;
+use crate::rules::are_below;
 use agg_base::NoMemory;
+use agg_base::limits::AREAS;
 use std::alloc::Global;
 use std::marker::Model;
 
@@ -14,15 +15,15 @@ pub struct Grouping {
 }
 
 impl Model for Grouping {
-    ghost use Rattle.agg_model.specs.Plan.{Groups};
+    ghost use Rattle.agg_model.specs.Problem.{Grouping};
 
-    ghost Value = { Groups };
+    ghost Value = { Grouping };
 
     ghost view = { λ g. record { region_of = g.region_of.items; class_of = g.class_of.items } };
 }
 
 ghost use Rattle.std.specs.Prelude.{◌≡◌, ◌↔◌, ◌<◌, IsTrue, IfOk, EachIndex, length, slice_index};
-ghost use Rattle.agg_model.specs.Plan.{IsNumbered, region, class_at};
+ghost use Rattle.agg_model.specs.Problem.{IsNumbered, region, class_at};
 
 impl Grouping {
     /// The same grouping again. Its one refusal is want of memory.
@@ -60,22 +61,17 @@ pub fn numbered(problem: &Problem, grouping: &Grouping) -> bool
 {
     let areas = problem.areas() as usize;
     let regions = grouping.class_of.len();
-    if grouping.region_of.len() != areas || regions > 65_536 {
+    if grouping.region_of.len() != areas || regions > AREAS {
         return false;
     }
     let classes = problem.classes();
-    all_regions_below(&grouping.region_of, regions) && all_below(&grouping.class_of, classes)
+    are_regions_below(&grouping.region_of, regions) && are_below(&grouping.class_of, classes)
 }
 
-/// Whether all regions are below the number of regions.
-fn all_regions_below(region_of: &[u32], regions: usize) -> bool
+// Whether all regions are below the number of regions.
+fn are_regions_below(region_of: &[u32], regions: usize) -> bool
     ensures { IsTrue result
         ↔ EachIndex region_of.now (λ v. slice_index region_of.now v < regions) }
 {
-    for region in region_of {
-        if *region as usize >= regions {
-            return false;
-        }
-    }
-    true
+    region_of.iter().all(|region| (*region as usize) < regions)
 }

@@ -3,13 +3,13 @@
 
 mod costs;
 mod grouping;
-mod part_labels;
+mod part_sets;
 mod problem;
 mod rules;
 
 pub use costs::{cost, cost_law, recolour};
 pub use grouping::{Grouping, numbered};
-pub use part_labels::parts;
+pub use part_sets::parts;
 pub use problem::{Link, Problem, ProblemParts};
 
 #[cfg(test)]

@@ -1,6 +1,7 @@
 // A problem and what it is made of.
-use crate::rules::keeps_rules;
+use crate::rules::is_problem;
 use agg_base::NoMemory;
+use agg_base::limits::CLASSES;
 use std::alloc::Global;
 use std::marker::Model;
 
@@ -35,9 +36,9 @@ pub struct ProblemParts {
 }
 
 impl Model for ProblemParts {
-    ghost use Rattle.agg_model.specs.Plan.{Plan};
+    ghost use Rattle.agg_model.specs.Problem.{Problem};
 
-    ghost Value = { Plan };
+    ghost Value = { Problem };
 
     ghost view = { λ p. record { classes = p.classes; own = p.own.items; weight = p.weight.items; links = p.links.items; distance = p.distance.items; threshold = p.threshold.items; border = p.border } };
 }
@@ -49,17 +50,17 @@ pub struct Problem {
 }
 
 impl Model for Problem {
-    ghost use Rattle.agg_model.specs.Plan.{Plan, IsPlan};
+    ghost use Rattle.agg_model.specs.Problem.{Problem, IsProblem};
 
-    ghost Value = { Plan };
+    ghost Value = { Problem };
 
     ghost view = { λ p. p.parts };
 
-    ghost invariant = { λ p. IsPlan p.parts };
+    ghost invariant = { λ p. IsProblem p.parts };
 }
 
 ghost use Rattle.std.specs.Prelude.{◌≡◌, ◌<◌, ◌≤◌, ◌*◌, ◌+◌, pos, ◌≤ℤ◌, length, slice_index, IfSome, IfNone, IfOk};
-ghost use Rattle.agg_model.specs.Plan.{IsPlan, areas, own_of, weight_of, distance_of, threshold_of, link_at};
+ghost use Rattle.agg_model.specs.Problem.{IsProblem, areas, own_of, weight_of, distance_of, threshold_of, link_at};
 
 impl ProblemParts {
     /// The same parts again. Its one refusal is want of memory.
@@ -89,9 +90,9 @@ impl Problem {
     /// - 10,000 times the sum of all weights and lengths is below 2^110.
     pub fn of(parts: ProblemParts) -> Option<Problem>
         ensures found { IfSome result (λ problem. problem ≡ parts) }
-        ensures none { IfNone result (¬ IsPlan parts) }
+        ensures none { IfNone result (¬ IsProblem parts) }
     {
-        if keeps_rules(&parts) {
+        if is_problem(&parts) {
             Some(Problem { parts })
         } else {
             None
@@ -107,16 +108,10 @@ impl Problem {
         })
     }
 
-    /// The rules that every problem keeps.
-    pub fn rules(&self)
-        ensures { IsPlan self.now }
-    {
-        let _ = &self.parts;
-    }
-
     /// The number of areas.
     pub fn areas(&self) -> u32
-        ensures { result ≡ areas self.now }
+        ensures value { result ≡ areas self.now }
+        ensures rules { IsProblem self.now }
     {
         self.parts.own.len() as u32
     }
@@ -124,7 +119,7 @@ impl Problem {
     /// The number of classes.
     pub fn classes(&self) -> u8
         ensures value { result ≡ self.now.classes }
-        ensures few { result ≤ 64 }
+        ensures few { result ≤ CLASSES }
     {
         self.parts.classes
     }
@@ -141,7 +136,8 @@ impl Problem {
     /// The weight of an area, in twice the square unit.
     pub fn weight(&self, area: u32) -> i128
         requires { area < areas self.now }
-        ensures { result ≡ weight_of self.now area }
+        ensures value { result ≡ weight_of self.now area }
+        ensures rules { IsProblem self.now }
     {
         self.parts.weight[area as usize]
     }
@@ -173,7 +169,8 @@ impl Problem {
 
     /// How many links there are.
     pub fn link_count(&self) -> u32
-        ensures { result ≡ length self.now.links }
+        ensures value { result ≡ length self.now.links }
+        ensures rules { IsProblem self.now }
     {
         self.parts.links.len() as u32
     }
@@ -181,7 +178,8 @@ impl Problem {
     /// One link.
     pub fn link(&self, link: u32) -> Link
         requires { link < length self.now.links }
-        ensures { result ≡ link_at self.now link }
+        ensures value { result ≡ link_at self.now link }
+        ensures rules { IsProblem self.now }
     {
         self.parts.links[link as usize]
     }

@@ -46,7 +46,6 @@ fn accessors_and_copies(rt: HostRuntime) -> Result<(), Fail> {
     assert_eq!(rt; problem.distance(1, 0), 5);
     assert_eq!(rt; problem.distance(1, 1), 0);
     assert_eq!(rt; problem.threshold(1), 4);
-    problem.rules();
     crosses_threads(&problem);
     crosses_threads(&problem.link(0));
     Ok(())

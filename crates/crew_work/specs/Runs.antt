@@ -36,3 +36,12 @@ OneResult P = (count : ℕ) (first second : List (Step P)) (a b : List P) → Is
 abbrev pub RunsAreInOrder : {P : Type 0} → (ℕ → P → Type 0) → Type 0
 RunsAreInOrder {P} stands = (count : ℕ) (steps : List (Step P)) (pieces : List P) → IsRun count steps
     → ((i k : ℕ) (p : P) → IsStep steps k (TakeBack i p) → stands i p) → IsResult count steps pieces → AreInOrder stands count pieces
+
+-- each run has a result
+abbrev pub EachRunHasAResult : Type 0 → Type 0
+EachRunHasAResult P = (count : ℕ) (steps : List (Step P)) → IsRun count steps → ((pieces : List P) × IsResult count steps pieces)
+
+-- each list of pieces in order is the result of some run whose pieces stand at their numbers
+abbrev pub EachOrderIsAResult : {P : Type 0} → (ℕ → P → Type 0) → Type 0
+EachOrderIsAResult {P} stands = (count : ℕ) (pieces : List P) → AreInOrder stands count pieces
+    → ((steps : List (Step P)) × IsRun count steps × IsResult count steps pieces × ((i k : ℕ) (p : P) → IsStep steps k (TakeBack i p) → stands i p))

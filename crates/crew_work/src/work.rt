@@ -1,7 +1,7 @@
 // Jobs and crews.
 ghost use Rattle.std.specs.Prelude.{◌≡◌, ◌<◌, ℕ, IfOk};
 ghost use Rattle.crew_work.specs.Pieces.{AreInOrder};
-ghost use Rattle.crew_work.specs.Runs.{OneResult, RunsAreInOrder};
+ghost use Rattle.crew_work.specs.Runs.{OneResult, RunsAreInOrder, EachRunHasAResult, EachOrderIsAResult};
 
 use agg_base::NoMemory;
 use std::alloc::Global;
@@ -38,10 +38,12 @@ pub trait Crew {
 }
 
 /// In whatever order the numbers of a job are handed out and its pieces taken back, the result is the pieces in order.
-/// Two runs that take back the same pieces have one result.
+/// Two runs that take back the same pieces have one result. Each run has a result, and each list of pieces in order is the result of some run.
 pub fn runs_law<J: Job>(job: &J)
     ensures in_order { RunsAreInOrder (J.stands job.now) }
     ensures one_result { OneResult J.Piece }
+    ensures some_result { EachRunHasAResult J.Piece }
+    ensures each_order { EachOrderIsAResult (J.stands job.now) }
 {
     let _ = job;
 }

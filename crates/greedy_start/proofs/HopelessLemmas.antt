@@ -5,22 +5,22 @@ use Rattle.std.proofs.lemmas.Bool.Decides.{Decides-eqb}
 use Rattle.whole_ring.specs.Sums.{when}
 use Rattle.whole_ring.proofs.Signs.{either_way}
 use Rattle.whole_ring.proofs.Sums.{sum_below-le}
-use Rattle.agg_model.specs.Plan.{Plan, Groups, IsPlan, Walk, areas, weight_of, threshold_of, region, class_in, region_weight}
+use Rattle.agg_model.specs.Problem.{Problem, Grouping, IsProblem, Walk, areas, weight_of, threshold_of, region, class_in, region_weight}
 use Rattle.agg_model.specs.Parts.{Path, IsHopeless, part_weight}
 use Rattle.agg_model.proofs.CostLemmas.{weights_nonnegative}
-use Rattle.agg_model.proofs.LabelLemmas.{false_true}
+use Rattle.std.proofs.lemmas.Bool.{false≢true}
 use Rattle.greedy_start.specs.Choices.{IsOpen}
 use Rattle.greedy_start.specs.Starts.{HopelessLaw}
 use Rattle.greedy_start.proofs.PartLemmas.{one_number}
 
-walk_path : (p : Plan) (g : Groups) (r v n u : ℕ) → Walk p g r v u n → Path p v u n
+walk_path : (p : Problem) (g : Grouping) (r v n u : ℕ) → Walk p g r v u n → Path p v u n
 walk_path p g r v zero u h = h
 walk_path p g r v (suc n) u h = (h.0, h.1, walk_path p g r v n h.0 h.3)
 
 -- a test that holds less often keeps less
 pub when_le : (b c : Bool) (x : ℤ) → pos 0 ≤ℤ x → (b ≡ true → c ≡ true) → when b x ≤ℤ when c x
 when_le true true x h f = omega (arith, ints)
-when_le true false x h f = false_true (f refl)
+when_le true false x h f = absurd (false≢true (f refl))
 when_le false true x h f = h
 when_le false false x h f = omega (arith, ints)
 
@@ -46,7 +46,7 @@ hopeless_law p part rules ok v h hopeless g feasible =
     ]
 
 -- a part with an open class is not hopeless
-pub open_hope : (p : Plan) (part : ℕ → ℕ) (v k : ℕ) → IsPlan p → IsOpen p part (part v) k → ¬ IsHopeless p part v
+pub open_hope : (p : Problem) (part : ℕ → ℕ) (v k : ℕ) → IsProblem p → IsOpen p part (part v) k → ¬ IsHopeless p part v
 open_hope p part v k rules is_open hopeless =
     let owned = is_open.owned in
     let below : k < p.classes = subst (λ (j : ℕ). j < p.classes) owned.3 (rules.own_below owned.0 owned.1) in
@@ -56,7 +56,7 @@ open_hope p part v k rules is_open hopeless =
     ]
 
 -- a part without one is hopeless
-pub none_open : (p : Plan) (part : ℕ → ℕ) (v : ℕ) → ((k : ℕ) → k < p.classes → ¬ IsOpen p part (part v) k) → IsHopeless p part v
+pub none_open : (p : Problem) (part : ℕ → ℕ) (v : ℕ) → ((k : ℕ) → k < p.classes → ¬ IsOpen p part (part v) k) → IsHopeless p part v
 none_open p part v none k h =
     elim (either_way (threshold_of p k) (part_weight p part v)) [
       | inl heavy ↦ inl (λ u q e o. none k h (record { owned = (u, q, e, o); heavy = heavy }))

@@ -6,9 +6,9 @@ use Rattle.std.proofs.lemmas.Bool.{cases_order}
 use Rattle.std.proofs.lemmas.Bool.Decides.{Decides-eqb}
 use Rattle.whole_ring.specs.Sums.{when}
 use Rattle.whole_ring.proofs.Sums.{sum_below-same}
-use Rattle.agg_model.specs.Plan.{Plan, Groups, IsPlan, IsRegion, IsFeasible, Linked, Walk, areas, weight_of, recolouring, region, class_in}
+use Rattle.agg_model.specs.Problem.{Problem, Grouping, IsProblem, IsRegion, IsFeasible, AreLinked, Walk, areas, weight_of, recolouring, region, class_in}
 use Rattle.agg_model.specs.Parts.{Path, AreParts}
-use Rattle.agg_model.proofs.LabelLemmas.{by_cases_of, false_true}
+use Rattle.std.proofs.lemmas.Bool.Decides.{eqb_tells}
 use Rattle.greedy_start.specs.declared.choices.Best.{Best}
 use Rattle.greedy_start.specs.Choices.{IsOpen, IsChosen, weight_with, recolouring_with}
 use Rattle.greedy_start.specs.Starts.{IsLeastOf, IsNumberedByLeast, IsOneRegionEach, IsFirstHopeless}
@@ -19,45 +19,43 @@ use Rattle.greedy_start.proofs.HopelessLemmas.{open_hope, none_open}
 -- ---- two numberings of the same areas
 
 -- the areas with the number s by the one are those with the number r by the other
-pub record IsSameGroup (p : Plan) (f : ℕ → ℕ) (s : ℕ) (g : ℕ → ℕ) (r : ℕ) : Type 0 where
+pub record IsSameGroup (p : Problem) (f : ℕ → ℕ) (s : ℕ) (g : ℕ → ℕ) (r : ℕ) : Type 0 where
   pub there : (v : ℕ) → v < areas p → f v ≡ s → g v ≡ r
   pub back : (v : ℕ) → v < areas p → g v ≡ r → f v ≡ s
 
-turned : (p : Plan) (f : ℕ → ℕ) (s : ℕ) (g : ℕ → ℕ) (r : ℕ) → IsSameGroup p f s g r → IsSameGroup p g r f s
+turned : (p : Problem) (f : ℕ → ℕ) (s : ℕ) (g : ℕ → ℕ) (r : ℕ) → IsSameGroup p f s g r → IsSameGroup p g r f s
 turned p f s g r same = record { there = same.back; back = same.there }
 
 same_tests : (a b c d : ℕ) → (a ≡ b → c ≡ d) → (c ≡ d → a ≡ b) → (a == b) ≡ (c == d)
 same_tests a b c d there back =
-    by_cases_of (a == b) _
-    (λ e. e ∙ sym ((Decides-eqb c d).1 (there ((Decides-eqb a b).0 e))))
-    (λ e.
-    by_cases_of (c == d) _
-    (λ q. false_true (sym e ∙ (Decides-eqb a b).1 (back ((Decides-eqb c d).0 q))))
-    (λ q. e ∙ sym q))
+    elim (eqb_tells a b) [
+      | inl h ↦ h.0 ∙ sym ((Decides-eqb c d).1 (there h.1))
+      | inr h ↦ elim (eqb_tells c d) [ inl k ↦ absurd (h.1 (back k.1)) | inr k ↦ h.0 ∙ sym k.0 ]
+    ]
 
-same_weight : (p : Plan) (f : ℕ → ℕ) (s : ℕ) (g : ℕ → ℕ) (r : ℕ) → IsSameGroup p f s g r → weight_with p f s ≡ weight_with p g r
+same_weight : (p : Problem) (f : ℕ → ℕ) (s : ℕ) (g : ℕ → ℕ) (r : ℕ) → IsSameGroup p f s g r → weight_with p f s ≡ weight_with p g r
 same_weight p f s g r same =
     sum_below-same (areas p) (λ v. when (f v == s) (weight_of p v)) (λ v. when (g v == r) (weight_of p v)) (λ v h.
     ap (λ (b : Bool). when b (weight_of p v)) (same_tests (f v) s (g v) r (same.there v h) (same.back v h)))
 
-same_recolouring : (p : Plan) (f : ℕ → ℕ) (s : ℕ) (g : ℕ → ℕ) (r k : ℕ) → IsSameGroup p f s g r → recolouring_with p f s k ≡ recolouring_with p g r k
+same_recolouring : (p : Problem) (f : ℕ → ℕ) (s : ℕ) (g : ℕ → ℕ) (r k : ℕ) → IsSameGroup p f s g r → recolouring_with p f s k ≡ recolouring_with p g r k
 same_recolouring p f s g r k same =
     sum_below-same (areas p) (λ v. when (f v == s) (recolouring p v k)) (λ v. when (g v == r) (recolouring p v k)) (λ v h.
     ap (λ (b : Bool). when b (recolouring p v k)) (same_tests (f v) s (g v) r (same.there v h) (same.back v h)))
 
-same_open : (p : Plan) (f : ℕ → ℕ) (s : ℕ) (g : ℕ → ℕ) (r k : ℕ) → IsSameGroup p f s g r → IsOpen p f s k → IsOpen p g r k
+same_open : (p : Problem) (f : ℕ → ℕ) (s : ℕ) (g : ℕ → ℕ) (r k : ℕ) → IsSameGroup p f s g r → IsOpen p f s k → IsOpen p g r k
 same_open p f s g r k same is_open =
     let owned = is_open.owned in
     let heavy = is_open.heavy in
     let weight = same_weight p f s g r same in
     record { owned = (owned.0, owned.1, same.there owned.0 owned.1 owned.2, owned.3); heavy = omega (arith, ints) }
 
-open_below : (p : Plan) (f : ℕ → ℕ) (s k : ℕ) → IsPlan p → IsOpen p f s k → k < p.classes
+open_below : (p : Problem) (f : ℕ → ℕ) (s k : ℕ) → IsProblem p → IsOpen p f s k → k < p.classes
 open_below p f s k rules is_open =
     let owned = is_open.owned in
     subst (λ (j : ℕ). j < p.classes) owned.3 (rules.own_below owned.0 owned.1)
 
-chosen_there : (p : Plan) (f : ℕ → ℕ) (s : ℕ) (g : ℕ → ℕ) (r k : ℕ) → IsPlan p → IsSameGroup p f s g r → IsLeastOpen p f s p.classes k → IsChosen p g r k
+chosen_there : (p : Problem) (f : ℕ → ℕ) (s : ℕ) (g : ℕ → ℕ) (r k : ℕ) → IsProblem p → IsSameGroup p f s g r → IsLeastOpen p f s p.classes k → IsChosen p g r k
 chosen_there p f s g r k rules same least =
     record {
       is_open = same_open p f s g r k same least.is_open;
@@ -73,13 +71,13 @@ chosen_there p f s g r k rules same least =
 -- ---- regions that are parts
 
 -- all that is known of the answer
-pub record IsDone (p : Plan) (parts : List ℕ) (best : List (Option Best)) : Type 0 where
-  pub rules : IsPlan p
+pub record IsDone (p : Problem) (parts : List ℕ) (best : List (Option Best)) : Type 0 where
+  pub rules : IsProblem p
   pub one_each : length parts ≡ areas p
   pub are_parts : AreParts p (λ v. slice_index parts v)
   pub are_best : AreBest p parts p.classes best
 
-tops_are_one : (parts : List ℕ) (best : List (Option Best)) (n : ℕ) (g : Groups) → IsStart parts best n g → (u v : ℕ) → u < n → v < n → slice_index parts u ≡ u → slice_index parts v ≡ v → region g u ≡ region g v → u ≡ v
+tops_are_one : (parts : List ℕ) (best : List (Option Best)) (n : ℕ) (g : Grouping) → IsStart parts best n g → (u v : ℕ) → u < n → v < n → slice_index parts u ≡ u → slice_index parts v ≡ v → region g u ≡ region g v → u ≡ v
 tops_are_one parts best n g start u v hu hv tu tv e =
     elim (cases_order u v) [
       | inl same ↦ same
@@ -87,7 +85,7 @@ tops_are_one parts best n g start u v hu hv tu tv e =
       | inr (inr more) ↦ (let lt = start.rising v u more hu tv tu in absurd (omega arith))
     ]
 
-same_part : (p : Plan) (parts : List ℕ) (best : List (Option Best)) (g : Groups) → AreParts p (λ v. slice_index parts v) → IsStart parts best (areas p) g → (u v : ℕ) → u < areas p → v < areas p → region g u ≡ region g v → slice_index parts u ≡ slice_index parts v
+same_part : (p : Problem) (parts : List ℕ) (best : List (Option Best)) (g : Grouping) → AreParts p (λ v. slice_index parts v) → IsStart parts best (areas p) g → (u v : ℕ) → u < areas p → v < areas p → region g u ≡ region g v → slice_index parts u ≡ slice_index parts v
 same_part p parts best g ok start u v hu hv e =
     let part : ℕ → ℕ = λ w. slice_index parts w in
     let du : slice_index parts u ≤ u = part_at_most p part ok u hu in
@@ -95,22 +93,22 @@ same_part p parts best g ok start u v hu hv e =
     tops_are_one parts best (areas p) g start (slice_index parts u) (slice_index parts v) (omega arith) (omega arith) (part_twice p part ok u hu) (part_twice p part ok v hv)
     (sym (start.same u hu) ∙ (e ∙ start.same v hv))
 
-same_region : (p : Plan) (parts : List ℕ) (best : List (Option Best)) (g : Groups) → IsStart parts best (areas p) g → (u v : ℕ) → u < areas p → v < areas p → slice_index parts u ≡ slice_index parts v → region g u ≡ region g v
+same_region : (p : Problem) (parts : List ℕ) (best : List (Option Best)) (g : Grouping) → IsStart parts best (areas p) g → (u v : ℕ) → u < areas p → v < areas p → slice_index parts u ≡ slice_index parts v → region g u ≡ region g v
 same_region p parts best g start u v hu hv e = start.same u hu ∙ (ap (region g) e ∙ sym (start.same v hv))
 
 -- the least area of a region, and what is known of its part
-pub record IsTop (p : Plan) (parts : List ℕ) (g : Groups) (r t : ℕ) : Type 0 where
+pub record IsTop (p : Problem) (parts : List ℕ) (g : Grouping) (r t : ℕ) : Type 0 where
   pub within : t < areas p
   pub top : slice_index parts t ≡ t
   pub inside : region g t ≡ r
   pub best : IsLeastOpen p (λ v. slice_index parts v) t p.classes (class_in g r)
 
-best_class : (p : Plan) (number : ℕ → ℕ) (r n : ℕ) (best : List (Option Best)) (k : ℕ) → IsBestBelow p number r n (best_at best r) → HasClass best r k → IsLeastOpen p number r n k
+best_class : (p : Problem) (number : ℕ → ℕ) (r n : ℕ) (best : List (Option Best)) (k : ℕ) → IsBestBelow p number r n (best_at best r) → HasClass best r k → IsLeastOpen p number r n k
 best_class p number r n best k is (b, e, c) =
     let here : IsBestBelow p number r n (Some b) = subst (λ (o : Option Best). IsBestBelow p number r n o) e is in
     subst (λ (j : ℕ). IsLeastOpen p number r n j) c here.1
 
-top_of : (p : Plan) (parts : List ℕ) (best : List (Option Best)) (g : Groups) → IsDone p parts best → IsStart parts best (areas p) g → (r : ℕ) → r < length g.class_of → (t : ℕ) × IsTop p parts g r t
+top_of : (p : Problem) (parts : List ℕ) (best : List (Option Best)) (g : Grouping) → IsDone p parts best → IsStart parts best (areas p) g → (r : ℕ) → r < length g.class_of → (t : ℕ) × IsTop p parts g r t
 top_of p parts best g done start r h =
     let top = start.tops r h in
     let count = done.one_each in (
@@ -123,21 +121,21 @@ top_of p parts best g done start r h =
       },
     )
 
-same_group : (p : Plan) (parts : List ℕ) (best : List (Option Best)) (g : Groups) → AreParts p (λ v. slice_index parts v) → IsStart parts best (areas p) g → (r t : ℕ) → IsTop p parts g r t → IsSameGroup p (λ v. slice_index parts v) t (region g) r
+same_group : (p : Problem) (parts : List ℕ) (best : List (Option Best)) (g : Grouping) → AreParts p (λ v. slice_index parts v) → IsStart parts best (areas p) g → (r t : ℕ) → IsTop p parts g r t → IsSameGroup p (λ v. slice_index parts v) t (region g) r
 same_group p parts best g ok start r t top =
     record {
       there = λ v h e. same_region p parts best g start v t h top.within (e ∙ sym top.top) ∙ top.inside;
       back = λ v h e. same_part p parts best g ok start v t h top.within (e ∙ sym top.inside) ∙ top.top;
     }
 
-linked_within : (p : Plan) (u v : ℕ) → IsPlan p → Linked p u v → v < areas p
+linked_within : (p : Problem) (u v : ℕ) → IsProblem p → AreLinked p u v → v < areas p
 linked_within p u v rules (l, h, inl (e, f)) = subst (λ (w : ℕ). w < areas p) f (rules.link_end l h)
 linked_within p u v rules (l, h, inr (e, f)) =
     let order = rules.link_order l h in
     let end = rules.link_end l h in
     omega arith
 
-path_walk : (p : Plan) (parts : List ℕ) (best : List (Option Best)) (g : Groups) → IsDone p parts best → IsStart parts best (areas p) g → (r v n u : ℕ) → u < areas p → region g u ≡ r → Path p v u n → Walk p g r v u n
+path_walk : (p : Problem) (parts : List ℕ) (best : List (Option Best)) (g : Grouping) → IsDone p parts best → IsStart parts best (areas p) g → (r v n u : ℕ) → u < areas p → region g u ≡ r → Path p v u n → Walk p g r v u n
 path_walk p parts best g done start r v zero u h e way = way
 path_walk p parts best g done start r v (suc n) u h e (s, near, rest) =
     let within : s < areas p = linked_within p u s done.rules near in
@@ -145,7 +143,7 @@ path_walk p parts best g done start r v (suc n) u h e (s, near, rest) =
     let here : region g s ≡ r = same_region p parts best g start s u within h number ∙ e in
     (s, near, here, path_walk p parts best g done start r v n s within here rest)
 
-is_region : (p : Plan) (parts : List ℕ) (best : List (Option Best)) (g : Groups) → IsDone p parts best → IsStart parts best (areas p) g → (r t : ℕ) → IsTop p parts g r t → IsRegion p g r
+is_region : (p : Problem) (parts : List ℕ) (best : List (Option Best)) (g : Grouping) → IsDone p parts best → IsStart parts best (areas p) g → (r t : ℕ) → IsTop p parts g r t → IsRegion p g r
 is_region p parts best g done start r t top =
     let same = same_group p parts best g done.are_parts start r t top in
     let is_open = same_open p (λ v. slice_index parts v) t (region g) r (class_in g r) same top.best.is_open in
@@ -159,7 +157,7 @@ is_region p parts best g done start r t top =
       heavy = is_open.heavy;
     }
 
-pub start_feasible : (p : Plan) (parts : List ℕ) (best : List (Option Best)) (g : Groups) → IsDone p parts best → IsStart parts best (areas p) g → IsFeasible p g
+pub start_feasible : (p : Problem) (parts : List ℕ) (best : List (Option Best)) (g : Grouping) → IsDone p parts best → IsStart parts best (areas p) g → IsFeasible p g
 start_feasible p parts best g done start =
     record {
       numbered = record {
@@ -173,7 +171,7 @@ start_feasible p parts best g done start =
       regions = λ r h. (let top = top_of p parts best g done start r h in is_region p parts best g done start r top.0 top.1);
     }
 
-pub start_one_each : (p : Plan) (parts : List ℕ) (best : List (Option Best)) (g : Groups) → IsDone p parts best → IsStart parts best (areas p) g → IsOneRegionEach p g
+pub start_one_each : (p : Problem) (parts : List ℕ) (best : List (Option Best)) (g : Grouping) → IsDone p parts best → IsStart parts best (areas p) g → IsOneRegionEach p g
 start_one_each p parts best g done start =
     let part : ℕ → ℕ = λ w. slice_index parts w in
     record {
@@ -186,14 +184,14 @@ start_one_each p parts best g done start =
           chosen_there p part top.0 (region g) r (class_in g r) done.rules (same_group p parts best g done.are_parts start r top.0 top.1) top.1.best;
     }
 
-least_is_top : (p : Plan) (parts : List ℕ) (best : List (Option Best)) (g : Groups) → IsDone p parts best → IsStart parts best (areas p) g → (r v : ℕ) → IsLeastOf p g r v → slice_index parts v ≡ v
+least_is_top : (p : Problem) (parts : List ℕ) (best : List (Option Best)) (g : Grouping) → IsDone p parts best → IsStart parts best (areas p) g → (r v : ℕ) → IsLeastOf p g r v → slice_index parts v ≡ v
 least_is_top p parts best g done start r v least =
     let down : slice_index parts v ≤ v = part_at_most p (λ w. slice_index parts w) done.are_parts v least.within in
     let within = least.within in
     let up : v ≤ slice_index parts v = least.least (slice_index parts v) (omega arith) (sym (start.same v least.within) ∙ least.inside) in
     omega arith
 
-pub start_numbered : (p : Plan) (parts : List ℕ) (best : List (Option Best)) (g : Groups) → IsDone p parts best → IsStart parts best (areas p) g → IsNumberedByLeast p g
+pub start_numbered : (p : Problem) (parts : List ℕ) (best : List (Option Best)) (g : Grouping) → IsDone p parts best → IsStart parts best (areas p) g → IsNumberedByLeast p g
 start_numbered p parts best g done start r s u v less within first second =
     let tu = least_is_top p parts best g done start r u first in
     let tv = least_is_top p parts best g done start s v second in
@@ -207,7 +205,7 @@ start_numbered p parts best g done start r s u v less within first second =
 
 -- ---- the first part that is hopeless
 
-pub first_hopeless : (p : Plan) (parts : List ℕ) (best : List (Option Best)) → IsDone p parts best → (v : ℕ) → IsFirstNone parts best v → IsFirstHopeless p v
+pub first_hopeless : (p : Problem) (parts : List ℕ) (best : List (Option Best)) → IsDone p parts best → (v : ℕ) → IsFirstNone parts best v → IsFirstHopeless p v
 first_hopeless p parts best done v none =
     let part : ℕ → ℕ = λ w. slice_index parts w in
     let count = done.one_each in

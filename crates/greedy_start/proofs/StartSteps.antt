@@ -3,7 +3,7 @@ use Rattle.std.proofs.Common.{◌≡◌, ◌≢◌, ℕ, ◌+◌, ◌-◌, ◌<�
 use Rattle.std.specs.Prelude.{slice_index, Option, get_or}
 use Rattle.std.proofs.lemmas.Bool.{cases_lt}
 use Rattle.std.proofs.lemmas.List.{get_or_append_left, get_or-append_right}
-use Rattle.agg_model.specs.Plan.{Groups, region, class_in}
+use Rattle.agg_model.specs.Problem.{Grouping, region, class_in}
 use Rattle.greedy_start.specs.declared.choices.Best.{Best}
 use Rattle.greedy_start.specs.Tallies.{HasClass, IsStart}
 
@@ -93,7 +93,7 @@ nothing parts best =
     }
 
 -- each area before that leads to itself has its class
-pub had_before : (parts : List ℕ) (best : List (Option Best)) (n : ℕ) (g : Groups) → IsStart parts best n g → (u : ℕ) → u < n → slice_index parts u ≡ u → (k : ℕ) × HasClass best u k
+pub had_before : (parts : List ℕ) (best : List (Option Best)) (n : ℕ) (g : Grouping) → IsStart parts best n g → (u : ℕ) → u < n → slice_index parts u ≡ u → (k : ℕ) × HasClass best u k
 had_before parts best n g start u h tu =
     let t = start.tops (region g u) (start.in_range u h) in
     let t_less = t.1 in

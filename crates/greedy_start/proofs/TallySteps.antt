@@ -9,14 +9,14 @@ use Rattle.std.proofs.lemmas.List.{get_or-set_same, get_or-set_other}
 use Rattle.std.proofs.Math.ListN.{length-set}
 use Rattle.whole_ring.specs.Sums.{sum_below, when}
 use Rattle.whole_ring.proofs.Sums.{sum_below-le, sum_below-nonnegative, sum_below-scale, sum_below-more}
-use Rattle.agg_model.specs.Plan.{Plan, IsPlan, areas, own_of, weight_of, recolouring}
-use Rattle.agg_model.proofs.CostLemmas.{weights_nonnegative, recolouring_nonnegative, when_nonnegative, when_at_most, one_weight, product_of}
-use Rattle.agg_model.proofs.LabelLemmas.{by_cases_of}
+use Rattle.agg_model.specs.Problem.{Problem, IsProblem, areas, own_of, weight_of, recolouring}
+use Rattle.agg_model.proofs.CostLemmas.{weights_nonnegative, recolouring_nonnegative, recolouring_most, when_nonnegative, when_at_most}
+use Rattle.std.proofs.lemmas.Bool.Decides.{eqb_tells}
 use Rattle.greedy_start.specs.declared.choices.Tally.{Tally}
 use Rattle.greedy_start.specs.Tallies.{IsTally, IsLight, AreTallies, tally_at}
 
 -- what one more area changes in the tally of its number
-pub record IsCounted (p : Plan) (v k : ℕ) (old : Tally) (new : Tally) : Type 0 where
+pub record IsCounted (p : Problem) (v k : ℕ) (old : Tally) (new : Tally) : Type 0 where
   pub owned : IsTrue new.owned ↔ (IsTrue old.owned ⊎ (own_of p v ≡ k))
   pub weight : new.weight ≡ old.weight +ℤ weight_of p v
   pub recolouring : new.recolouring ≡ old.recolouring +ℤ recolouring p v k
@@ -32,13 +32,12 @@ sum_here n r number f e =
 sum_elsewhere : (n r : ℕ) (number : ℕ → ℕ) (f : ℕ → ℤ) → number n ≢ r → sum_below (n + 1) (λ v. when (number v == r) (f v)) ≡ sum_below n (λ v. when (number v == r) (f v))
 sum_elsewhere n r number f ne =
     let more = sum_below-more n (λ v. when (number v == r) (f v)) in
-    by_cases_of (number n == r) _
-    (λ e. absurd (ne ((Decides-eqb (number n) r).0 e)))
-    (λ e.
-    let out : when (number n == r) (f n) ≡ pos 0 = ap (λ (b : Bool). when b (f n)) e in
-    omega (arith, ints))
+    elim (eqb_tells (number n) r) [
+      | inl h ↦ absurd (ne h.1)
+      | inr h ↦ (let out : when (number n == r) (f n) ≡ pos 0 = ap (λ (b : Bool). when b (f n)) h.0 in omega (arith, ints))
+    ]
 
-counted_here : (p : Plan) (number : ℕ → ℕ) (k r n : ℕ) (old new : Tally) → number n ≡ r → IsTally p number k r n old → IsCounted p n k old new → IsTally p number k r (n + 1) new
+counted_here : (p : Problem) (number : ℕ → ℕ) (k r n : ℕ) (old new : Tally) → number n ≡ r → IsTally p number k r n old → IsCounted p n k old new → IsTally p number k r (n + 1) new
 counted_here p number k r n old new e was step =
     record {
       owned = (
@@ -58,7 +57,7 @@ counted_here p number k r n old new e was step =
       recolouring = step.recolouring ∙ (ap (λ (x : ℤ). x +ℤ recolouring p n k) was.recolouring ∙ sym (sum_here n r number (λ v. recolouring p v k) e));
     }
 
-counted_elsewhere : (p : Plan) (number : ℕ → ℕ) (k r n : ℕ) (old : Tally) → number n ≢ r → IsTally p number k r n old → IsTally p number k r (n + 1) old
+counted_elsewhere : (p : Problem) (number : ℕ → ℕ) (k r n : ℕ) (old : Tally) → number n ≢ r → IsTally p number k r n old → IsTally p number k r (n + 1) old
 counted_elsewhere p number k r n old ne was =
     record {
       owned = (
@@ -83,7 +82,7 @@ at_each f at x d P h here v other =
       | inr ne ↦ rw (get_or-set_other f at v x d ne) (other ne)
     ]
 
-pub tallies_more : (p : Plan) (parts : List ℕ) (k n : ℕ) (ts : List Tally) (new : Tally) → n < length parts → slice_index parts n < length parts → AreTallies p parts k n ts → IsCounted p n k (tally_at ts (slice_index parts n)) new → AreTallies p parts k (n + 1) (slice_set ts (slice_index parts n) new)
+pub tallies_more : (p : Problem) (parts : List ℕ) (k n : ℕ) (ts : List Tally) (new : Tally) → n < length parts → slice_index parts n < length parts → AreTallies p parts k n ts → IsCounted p n k (tally_at ts (slice_index parts n)) new → AreTallies p parts k (n + 1) (slice_set ts (slice_index parts n) new)
 tallies_more p parts k n ts new h within was step =
     let number : ℕ → ℕ = λ v. slice_index parts v in
     let count = was.one_each in
@@ -95,16 +94,7 @@ tallies_more p parts k n ts new h within was step =
           (λ ne. counted_elsewhere p number k r n _ (λ e. ne (sym e)) (was.at r q));
     }
 
--- recolouring an area costs at most 10,000 times its weight
-recolouring_most : (p : Plan) → IsPlan p → (v k : ℕ) → v < areas p → k < p.classes → recolouring p v k ≤ℤ (pos 10000 *ℤ weight_of p v)
-recolouring_most p rules v k h below =
-    let one = one_weight p rules v h in
-    let place : own_of p v * p.classes + k < p.classes * p.classes = mul-add-lt (own_of p v) p.classes k p.classes (rules.own_below v h) below in
-    let size = rules.distances in
-    let near : slice_index p.distance (own_of p v * p.classes + k) ≤ 10000 = rules.near (own_of p v * p.classes + k) (omega arith) in
-    (product_of (weight_of p v) (slice_index p.distance (own_of p v * p.classes + k)) one.0 one.1 near).most
-
-pub tally_light : (p : Plan) (number : ℕ → ℕ) (k r n : ℕ) (t : Tally) → IsPlan p → k < p.classes → n ≤ areas p → IsTally p number k r n t → IsLight p n t
+pub tally_light : (p : Problem) (number : ℕ → ℕ) (k r n : ℕ) (t : Tally) → IsProblem p → k < p.classes → n ≤ areas p → IsTally p number k r n t → IsLight p n t
 tally_light p number k r n t rules below h is =
     let weight = is.weight in
     let recolour = is.recolouring in
@@ -113,7 +103,7 @@ tally_light p number k r n t rules below h is =
     let c0 = sum_below-nonnegative n (λ v. when (number v == r) (recolouring p v k)) (λ v q. when_nonnegative (number v == r) (recolouring p v k) (recolouring_nonnegative p rules v k (omega arith))) in
     let c1 = sum_below-le n (λ v. when (number v == r) (recolouring p v k)) (λ v. pos 10000 *ℤ weight_of p v) (λ v q.
     let low = when_at_most (number v == r) (recolouring p v k) (recolouring_nonnegative p rules v k (omega arith)) in
-    let high = recolouring_most p rules v k (omega arith) below in
+    let high = recolouring_most p rules v k (omega arith) in
     omega (arith, ints)) in
     let scale = sum_below-scale n (pos 10000) (weight_of p) in
     record { weight_least = omega (arith, ints); weight_most = omega (arith, ints); recolouring_least = omega (arith, ints); recolouring_most = omega (arith, ints) }

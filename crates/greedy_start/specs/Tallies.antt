@@ -1,19 +1,19 @@
 -- What is known after the first areas or classes.
 use Rattle.std.specs.Prelude.{◌≡◌, ℕ, ◌<◌, ◌≤◌, ◌⊎◌, ◌↔◌, ◌*ℤ◌, ◌≤ℤ◌, ◌<ℤ◌, pos, ◌==◌, false, IsTrue, List, length, slice_index, slice_index_or, Option, Some, None}
 use Rattle.whole_ring.specs.Sums.{sum_below, when}
-use Rattle.agg_model.specs.Plan.{Plan, Groups, own_of, weight_of, recolouring, region, class_in}
+use Rattle.agg_model.specs.Problem.{Problem, Grouping, own_of, weight_of, recolouring, region, class_in}
 use Rattle.greedy_start.specs.declared.choices.Best.{Best}
 use Rattle.greedy_start.specs.declared.choices.Tally.{Tally}
 use Rattle.greedy_start.specs.Choices.{IsOpen, recolouring_with}
 
 -- what those of the first n areas say of the class k that have the number r
-pub record IsTally (p : Plan) (number : ℕ → ℕ) (k r n : ℕ) (tally : Tally) : Type 0 where
+pub record IsTally (p : Problem) (number : ℕ → ℕ) (k r n : ℕ) (tally : Tally) : Type 0 where
   pub owned : IsTrue tally.owned ↔ ((v : ℕ) × (v < n) × (number v ≡ r) × (own_of p v ≡ k))
   pub weight : tally.weight ≡ sum_below n (λ v. when (number v == r) (weight_of p v))
   pub recolouring : tally.recolouring ≡ sum_below n (λ v. when (number v == r) (recolouring p v k))
 
 -- the sums are no greater than those of the first n areas can be
-pub record IsLight (p : Plan) (n : ℕ) (tally : Tally) : Type 0 where
+pub record IsLight (p : Problem) (n : ℕ) (tally : Tally) : Type 0 where
   pub weight_least : pos 0 ≤ℤ tally.weight
   pub weight_most : tally.weight ≤ℤ sum_below n (weight_of p)
   pub recolouring_least : pos 0 ≤ℤ tally.recolouring
@@ -24,12 +24,12 @@ abbrev pub tally_at : List Tally → ℕ → Tally
 tally_at tallies r = slice_index_or tallies r (record { owned = false; weight = pos 0; recolouring = pos 0 })
 
 -- one tally for each number
-pub record AreTallies (p : Plan) (parts : List ℕ) (k n : ℕ) (tallies : List Tally) : Type 0 where
+pub record AreTallies (p : Problem) (parts : List ℕ) (k n : ℕ) (tallies : List Tally) : Type 0 where
   pub one_each : length tallies ≡ length parts
   pub at : (r : ℕ) → r < length parts → IsTally p (λ v. slice_index parts v) k r n (tally_at tallies r)
 
 -- the class of least recolouring among the open ones below n, and the least number at a tie
-pub record IsLeastOpen (p : Plan) (number : ℕ → ℕ) (r n k : ℕ) : Type 0 where
+pub record IsLeastOpen (p : Problem) (number : ℕ → ℕ) (r n k : ℕ) : Type 0 where
   pub below : k < n
   pub is_open : IsOpen p number r k
   pub least : (j : ℕ)
@@ -38,7 +38,7 @@ pub record IsLeastOpen (p : Plan) (number : ℕ → ℕ) (r n k : ℕ) : Type 0 
       → (recolouring_with p number r k <ℤ recolouring_with p number r j) ⊎ ((recolouring_with p number r k ≡ recolouring_with p number r j) × (k ≤ j))
 
 -- that class with its recolouring, or none where no class below n is open
-abbrev pub IsBestBelow : Plan → (ℕ → ℕ) → ℕ → ℕ → Option Best → Type 0
+abbrev pub IsBestBelow : Problem → (ℕ → ℕ) → ℕ → ℕ → Option Best → Type 0
 IsBestBelow p number r n None = (k : ℕ) → k < n → ¬ IsOpen p number r k
 IsBestBelow p number r n (Some best) =
     (best.recolouring ≡ recolouring_with p number r best.class) × IsLeastOpen p number r n best.class
@@ -48,7 +48,7 @@ abbrev pub best_at : List (Option Best) → ℕ → Option Best
 best_at best r = slice_index_or best r None
 
 -- the best of the first n classes for each number
-pub record AreBest (p : Plan) (parts : List ℕ) (n : ℕ) (best : List (Option Best)) : Type 0 where
+pub record AreBest (p : Problem) (parts : List ℕ) (n : ℕ) (best : List (Option Best)) : Type 0 where
   pub one_each : length best ≡ length parts
   pub at : (r : ℕ) → r < length parts → IsBestBelow p (λ v. slice_index parts v) r n (best_at best r)
 
@@ -57,7 +57,7 @@ abbrev pub HasClass : List (Option Best) → ℕ → ℕ → Type 0
 HasClass best r k = (b : Best) × (best_at best r ≡ Some b) × (b.class ≡ k)
 
 -- the first n areas have their regions, one for each part
-pub record IsStart (parts : List ℕ) (best : List (Option Best)) (n : ℕ) (g : Groups) : Type 0 where
+pub record IsStart (parts : List ℕ) (best : List (Option Best)) (n : ℕ) (g : Grouping) : Type 0 where
   pub one_each : length g.region_of ≡ n
   pub few : length g.class_of ≤ n
   pub in_range : (v : ℕ) → v < n → region g v < length g.class_of

@@ -1,7 +1,7 @@
 // The class that one region of all areas of a part gets. Each class is tallied in all parts at once, so n areas and k classes take
 // some n * k steps.
 ghost use Rattle.std.specs.Prelude.{◌≡◌, ◌<◌, ◌≤◌, ◌+◌, ◌⊎◌, ◌↔◌, ◌+ℤ◌, ◌≤ℤ◌, ℕ, List, length, slice_index, IsTrue, IfOk, EachIndex};
-ghost use Rattle.agg_model.specs.Plan.{areas, own_of, weight_of, recolouring};
+ghost use Rattle.agg_model.specs.Problem.{areas, own_of, weight_of, recolouring};
 ghost use Rattle.greedy_start.specs.Tallies.{IsTally, IsLight, AreTallies, IsBestBelow, AreBest};
 
 use agg_base::NoMemory;
@@ -15,8 +15,8 @@ pub struct Best {
     pub recolouring: i128,
 }
 
-/// What the areas of a part that were looked at say of one class: whether one owns it, what they weigh together (in twice the square unit),
-/// and what it costs to give them the class.
+// What the areas of a part that were looked at say of one class: whether one owns it, what they weigh together (in twice the square unit),
+// and what it costs to give them the class.
 #[derive(Clone, Copy)]
 struct Tally {
     owned: bool,
@@ -42,7 +42,7 @@ pub fn best_classes(
     Ok(best)
 }
 
-/// What all areas of each part say of one class.
+// What all areas of each part say of one class.
 fn tallies(
     alloc: Global,
     problem: &Problem,
@@ -54,7 +54,6 @@ fn tallies(
     requires parts { EachIndex parts.now (λ v. slice_index parts.now v < length parts.now) }
     ensures { IfOk result (λ tallies. AreTallies problem.now parts.now class (areas problem.now) tallies.items) }
 {
-    problem.rules();
     let none = Tally {
         owned: false,
         weight: 0,
@@ -63,13 +62,13 @@ fn tallies(
     let mut tallies = vec![in alloc; none; parts.len()]?;
     for area in 0..problem.areas() {
         let part = parts[area as usize] as usize;
-        tallies[part] = counted(problem, tallies[part], area, class);
+        tallies[part] = tally_with(problem, tallies[part], area, class);
     }
     Ok(tallies)
 }
 
-/// The tally with one more area.
-fn counted(problem: &Problem, tally: Tally, area: u32, class: u8) -> Tally
+// The tally with one more area.
+fn tally_with(problem: &Problem, tally: Tally, area: u32, class: u8) -> Tally
     requires area { area < areas problem.now }
     requires class { class < problem.now.classes }
     requires light { IsLight problem.now area tally }
@@ -77,7 +76,6 @@ fn counted(problem: &Problem, tally: Tally, area: u32, class: u8) -> Tally
     ensures weight { result.weight ≡ tally.weight +ℤ weight_of problem.now area }
     ensures recolouring { result.recolouring ≡ tally.recolouring +ℤ recolouring problem.now area class }
 {
-    problem.rules();
     let is_own = problem.own(area) == class;
     Tally {
         owned: tally.owned || is_own,
@@ -86,7 +84,7 @@ fn counted(problem: &Problem, tally: Tally, area: u32, class: u8) -> Tally
     }
 }
 
-/// Puts the class in the place of the best so far, in each part where it is better.
+// Puts the class in the place of the best so far, in each part where it is better.
 fn improve(best: &mut [Option<Best>], problem: &Problem, tallies: &[Tally], class: u8)
     requires class { class < problem.now.classes }
     requires length { length best.old ≡ length tallies.now }
@@ -94,12 +92,12 @@ fn improve(best: &mut [Option<Best>], problem: &Problem, tallies: &[Tally], clas
     ensures best { (parts : List ℕ) → AreTallies problem.now parts class (areas problem.now) tallies.now → AreBest problem.now parts class best.old → AreBest problem.now parts (class + 1) best.new }
 {
     for part in 0..best.len() {
-        best[part] = better(problem, best[part], tallies[part], class);
+        best[part] = better_of(problem, best[part], tallies[part], class);
     }
 }
 
-/// The best class so far, or the next class where that is better.
-fn better(problem: &Problem, best: Option<Best>, tally: Tally, class: u8) -> Option<Best>
+// The best class so far, or the next class where that is better.
+fn better_of(problem: &Problem, best: Option<Best>, tally: Tally, class: u8) -> Option<Best>
     requires { class < problem.now.classes }
     ensures { (number : ℕ → ℕ) (r : ℕ) → IsTally problem.now number class r (areas problem.now) tally → IsBestBelow problem.now number r class best → IsBestBelow problem.now number r (class + 1) result }
 {

@@ -1,6 +1,6 @@
 // One region for each part.
 ghost use Rattle.std.specs.Prelude.{◌≡◌, ◌<◌, ◌≤◌, ℕ, length, slice_index, IfOk, EachIndex};
-ghost use Rattle.agg_model.specs.Plan.{Groups, IsFeasible};
+ghost use Rattle.agg_model.specs.Problem.{Grouping, IsFeasible};
 ghost use Rattle.greedy_start.specs.Starts.{IsNumberedByLeast, IsOneRegionEach, IsFirstHopeless};
 ghost use Rattle.greedy_start.specs.Tallies.{IsStart, IsFirstNone};
 
@@ -17,7 +17,7 @@ pub enum StartFault {
     /// least area of the first such part.
     #[error("no class can cover the part of area {area}")]
     Hopeless { area: u32 },
-    /// Memory is wanting.
+    /// Out of memory.
     #[error("out of memory")]
     Memory,
 }
@@ -50,21 +50,21 @@ pub fn start(alloc: Global, problem: &Problem) -> Result<Grouping, StartFault>
     ensures found { IfOk result (λ g. IsFeasible problem.now g × IsNumberedByLeast problem.now g) }
     ensures chosen { IfOk result (λ g. IsOneRegionEach problem.now g) }
     ensures hopeless { (v : ℕ) → result ≡ Err (StartFault.Hopeless v) → IsFirstHopeless problem.now v }
-    ensures none { (v : ℕ) → result ≡ Err (StartFault.Hopeless v) → (g : Groups) → ¬ IsFeasible problem.now g }
+    ensures none { (v : ℕ) → result ≡ Err (StartFault.Hopeless v) → (g : Grouping) → ¬ IsFeasible problem.now g }
 {
-    problem.rules();
     let parts = parts(alloc, problem)?;
     let best = best_classes(alloc, problem, &parts)?;
-    one_region_each(alloc, &parts, &best)
+    one_region_each(alloc, problem.areas(), &parts, &best)
 }
 
-/// One region for each part, with its best class.
+// One region for each part, with its best class.
 fn one_region_each(
     alloc: Global,
+    areas: u32,
     parts: &[u32],
     best: &[Option<Best>],
 ) -> Result<Grouping, StartFault>
-    requires few { length parts.now ≤ 65536 }
+    requires areas { length parts.now ≡ areas }
     requires length { length best.now ≡ length parts.now }
     requires down { EachIndex parts.now (λ v. slice_index parts.now v ≤ v) }
     ensures found { IfOk result (λ g. IsStart parts.now best.now (length parts.now) g) }
@@ -72,14 +72,14 @@ fn one_region_each(
 {
     let mut region_of = Vec::new(alloc);
     let mut class_of = Vec::new(alloc);
-    for area in 0..parts.len() {
-        let part = parts[area] as usize;
+    for area in 0..areas {
+        let part = parts[area as usize];
         if part != area {
-            region_of.push(region_of[part])?;
+            region_of.push(region_of[part as usize])?;
             continue;
         }
-        let Some(Best { class, .. }) = best[area] else {
-            return Err(StartFault::Hopeless { area: area as u32 });
+        let Some(Best { class, .. }) = best[area as usize] else {
+            return Err(StartFault::Hopeless { area });
         };
         region_of.push(class_of.len() as u32)?;
         class_of.push(class)?;

@@ -8,7 +8,7 @@ use Rattle.json_text.specs.Tree.{Json, Number, Items, no_items, item, Members, n
 use Rattle.json_text.specs.Spelling.{IsSpace, SpellsText, SpellsBare, SpellsMoreItems, SpellsMoreMembers}
 use Rattle.json_text.specs.NumberSteps.{next_digit}
 use Rattle.json_text.specs.Modes.{is_space, begin_of, word_text}
-use Rattle.json_text.specs.Stacks.{Opened, a_list, some_members, a_name, has_members, stack_named, closed_first}
+use Rattle.json_text.specs.Stacks.{Opened, a_list, some_members, a_name, has_members, stack_named, tree_of_first}
 use Rattle.json_text.specs.Steps.{Progress, go, close, word_value, begun, begin_text, between, in_word, in_number, at_start}
 use Rattle.json_text.specs.declared.digits.Digits.{Digits}
 use Rattle.json_text.specs.declared.digits.Digits.TheVariants.{Minus, Zero, Whole, Point, Fraction, Letter, Sign, Power}
@@ -47,18 +47,18 @@ value_on limit b p tree rest value v = elim (value_cases limit b (go Mode.Value 
 
 -- ---- what closes
 
-close_or : (byte b : ℕ) (stack : List Opened) (tree : Json) (rest space behind : List ℕ) → IsSpace space → Closes (drop 1 stack) (closed_first stack) tree behind → b ∷ rest ≡ space ++ byte ∷ behind →
-    (IsSpaceByte b × CloseDue byte stack tree rest) ⊎ ((b ≡ byte) × Closes (drop 1 stack) (closed_first stack) tree rest)
+close_or : (byte b : ℕ) (stack : List Opened) (tree : Json) (rest space behind : List ℕ) → IsSpace space → Closes (drop 1 stack) (tree_of_first stack) tree behind → b ∷ rest ≡ space ++ byte ∷ behind →
+    (IsSpaceByte b × CloseDue byte stack tree rest) ⊎ ((b ≡ byte) × Closes (drop 1 stack) (tree_of_first stack) tree rest)
 close_or byte b stack tree rest [] behind is next e =
-    let t = heads b byte rest behind e in inr (t.0, subst (λ (bs : List ℕ). Closes (drop 1 stack) (closed_first stack) tree bs) (sym t.1) next)
+    let t = heads b byte rest behind e in inr (t.0, subst (λ (bs : List ℕ). Closes (drop 1 stack) (tree_of_first stack) tree bs) (sym t.1) next)
 close_or byte b stack tree rest (x ∷ space) behind is next e =
     let t = heads b x rest (space ++ byte ∷ behind) e in inl (subst IsSpaceByte (sym t.0) is.0, record { space = space; behind = behind; is_space = is.1; next = next; parts = t.1 })
 
-close_cases : (byte b : ℕ) (stack : List Opened) (tree : Json) (rest : List ℕ) → CloseDue byte stack tree (b ∷ rest) → (IsSpaceByte b × CloseDue byte stack tree rest) ⊎ ((b ≡ byte) × Closes (drop 1 stack) (closed_first stack) tree rest)
+close_cases : (byte b : ℕ) (stack : List Opened) (tree : Json) (rest : List ℕ) → CloseDue byte stack tree (b ∷ rest) → (IsSpaceByte b × CloseDue byte stack tree rest) ⊎ ((b ≡ byte) × Closes (drop 1 stack) (tree_of_first stack) tree rest)
 close_cases byte b stack tree rest v = close_or byte b stack tree rest v.space v.behind v.is_space v.next v.parts
 
-close_leads : (p : Progress) (tree : Json) (rest : List ℕ) → Closes (drop 1 p.stack) (closed_first p.stack) tree rest → Leads (Ok (close p)) tree rest
-close_leads p tree rest h = closes_stands (drop 1 p.stack) p.root (closed_first p.stack) tree rest h
+close_leads : (p : Progress) (tree : Json) (rest : List ℕ) → Closes (drop 1 p.stack) (tree_of_first p.stack) tree rest → Leads (Ok (close p)) tree rest
+close_leads p tree rest h = closes_stands (drop 1 p.stack) p.root (tree_of_first p.stack) tree rest h
 
 pub first_item_on : (limit b : ℕ) (p : Progress) (tree : Json) (rest : List ℕ) → has_members p.stack ≡ false → CloseDue 93 p.stack tree (b ∷ rest) ⊎ ValueDue p.stack tree (b ∷ rest) →
     Leads (between limit Mode.FirstItem b (go Mode.FirstItem p)) tree rest

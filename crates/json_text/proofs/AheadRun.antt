@@ -6,7 +6,7 @@ use Rattle.json_text.specs.Spelling.{IsMark, SpellsText, SpellsBare, SpellsValue
 use Rattle.json_text.specs.NumberSteps.{is_whole}
 use Rattle.json_text.specs.Modes.{word_text}
 use Rattle.json_text.specs.Stacks.{Opened, a_list, some_members, a_name}
-use Rattle.json_text.specs.Steps.{Progress, go, step_in, step, run, nothing, root_of, root_with, finished, finish}
+use Rattle.json_text.specs.Steps.{Progress, go, step_in, step, run, nothing, root_of, root_with, end_mode, finish}
 use Rattle.json_text.specs.declared.mode.Mode.{Mode}
 use Rattle.json_text.specs.declared.fault.Stop.{Stop}
 use Rattle.json_text.proofs.NumberLemmas.{json_from}
@@ -108,7 +108,7 @@ long_left zero (x ∷ xs) h e = cc
 long_left (suc n) [] h e = omega arith
 long_left (suc n) (x ∷ xs) h e = long_left n xs (omega arith) e
 
-finish_in_on : (mode : Mode) (p : Progress) (tree : Json) → GoesOn mode p.stack p.root → Completes mode p.token p.stack p.root tree [] → root_of (finished mode p).root ≡ Ok tree
+finish_in_on : (mode : Mode) (p : Progress) (tree : Json) → GoesOn mode p.stack p.root → Completes mode p.token p.stack p.root tree [] → root_of (end_mode mode p).root ≡ Ok tree
 finish_in_on Mode.After p tree g h = stands_alone p.stack p.root tree h
 finish_in_on (Mode.Number digits) p tree g h =
     let e = both_empty h.tail h.behind h.parts in

@@ -7,7 +7,7 @@ use Rattle.std.proofs.lemmas.Str.{encode_ascii}
 use Rattle.json_text.specs.Tree.{Json}
 use Rattle.json_text.specs.NumberSteps.{first_digit}
 use Rattle.json_text.specs.Modes.{begin_of, number_begun as number_from}
-use Rattle.json_text.specs.Stacks.{Opened, a_list, some_members, a_name, has_list, has_members, closed_first}
+use Rattle.json_text.specs.Stacks.{Opened, a_list, some_members, a_name, has_list, has_members, tree_of_first}
 use Rattle.json_text.specs.Steps.{Progress, go, close, begun, behind}
 use Rattle.json_text.specs.declared.digits.Digits.{Digits}
 use Rattle.json_text.specs.declared.mode.Word.{Word}
@@ -111,21 +111,21 @@ comma_members (a_list trees ∷ outer) root tree rest e v = absurd (let bad : fa
 comma_members (some_members pairs ∷ outer) root tree rest e v = members_comma pairs outer tree rest v
 comma_members (a_name pairs name ∷ outer) root tree rest e v = absurd (let bad : false ≡ true = e in cc)
 
-close_list : (stack : List Opened) (root : Option Json) (tree : Json) (rest : List ℕ) → has_list stack ≡ true → Closes (drop 1 stack) (closed_first stack) tree rest → Stands stack root tree (93 ∷ rest)
+close_list : (stack : List Opened) (root : Option Json) (tree : Json) (rest : List ℕ) → has_list stack ≡ true → Closes (drop 1 stack) (tree_of_first stack) tree rest → Stands stack root tree (93 ∷ rest)
 close_list [] root tree rest e v = absurd (let bad : false ≡ true = e in cc)
 close_list (a_list trees ∷ outer) root tree rest e v = list_closed trees outer tree rest v
 close_list (some_members pairs ∷ outer) root tree rest e v = absurd (let bad : false ≡ true = e in cc)
 close_list (a_name pairs name ∷ outer) root tree rest e v = absurd (let bad : false ≡ true = e in cc)
 
-close_members : (stack : List Opened) (root : Option Json) (tree : Json) (rest : List ℕ) → has_members stack ≡ true → Closes (drop 1 stack) (closed_first stack) tree rest → Stands stack root tree (125 ∷ rest)
+close_members : (stack : List Opened) (root : Option Json) (tree : Json) (rest : List ℕ) → has_members stack ≡ true → Closes (drop 1 stack) (tree_of_first stack) tree rest → Stands stack root tree (125 ∷ rest)
 close_members [] root tree rest e v = absurd (let bad : false ≡ true = e in cc)
 close_members (a_list trees ∷ outer) root tree rest e v = absurd (let bad : false ≡ true = e in cc)
 close_members (some_members pairs ∷ outer) root tree rest e v = members_closed pairs outer tree rest v
 close_members (a_name pairs name ∷ outer) root tree rest e v = absurd (let bad : false ≡ true = e in cc)
 
 -- what has closed is a value that has ended
-pub closed_back : (p q : Progress) (tree : Json) (rest : List ℕ) → made (close p) ≡ made q → CompletesIt q tree rest → Closes (drop 1 p.stack) (closed_first p.stack) tree rest
-closed_back p q tree rest e h = stands_closes (drop 1 p.stack) p.root (closed_first p.stack) tree rest (moved (close p) q tree rest (it_is _ q e) h)
+pub closed_back : (p q : Progress) (tree : Json) (rest : List ℕ) → made (close p) ≡ made q → CompletesIt q tree rest → Closes (drop 1 p.stack) (tree_of_first p.stack) tree rest
+closed_back p q tree rest e h = stands_closes (drop 1 p.stack) p.root (tree_of_first p.stack) tree rest (moved (close p) q tree rest (it_is _ q e) h)
 
 pub behind_back : (b : ℕ) (p q : Progress) (tree : Json) (rest : List ℕ) → behind b p ≡ Ok q → CompletesIt q tree rest → Stands p.stack p.root tree (b ∷ rest)
 behind_back b p q tree rest e h =

@@ -4,7 +4,7 @@ use Rattle.std.specs.Char.{encode_utf8}
 use Rattle.std.proofs.lemmas.Bool.Decides.{Decides-eqb}
 use Rattle.json_text.specs.Tree.{Json, Str}
 use Rattle.json_text.specs.Strings.{SpellsCharacter, SpellsCharacters}
-use Rattle.json_text.specs.CharacterSteps.{take_byte, whole, is_scalar, is_within, grown, is_front, next_of_code, next_of_low, hex_digit}
+use Rattle.json_text.specs.CharacterSteps.{take_byte, whole, is_scalar, is_within, grow, is_front, next_of_code, next_of_low, hex_digit}
 use Rattle.json_text.specs.Stacks.{has_members, stack_named}
 use Rattle.json_text.specs.Steps.{Progress, go, end_value, end_text, in_text}
 use Rattle.json_text.specs.declared.character.Part.{Part}
@@ -65,7 +65,7 @@ orderly_if part b false x y h k = k
 whole_orderly : (part : Part) (b code : ℕ) → Orderly part b (whole code)
 whole_orderly part b code = orderly_if part b (is_scalar code) _ _ tt tt
 
-grown_orderly : (part : Part) (b left front : ℕ) → Orderly part b (grown left front)
+grown_orderly : (part : Part) (b left front : ℕ) → Orderly part b (grow left front)
 grown_orderly part b left front = orderly_if part b (left == 0) _ _ (whole_orderly part b front) (orderly_if part b (is_front left front) _ _ tt tt)
 
 code_orderly : (part : Part) (b digits value : ℕ) (o : Option ℕ) → Orderly part b (next_of_code digits value o)

@@ -4,7 +4,7 @@ use Rattle.std.specs.Char.{encode_utf8}
 use Rattle.std.proofs.lemmas.Bool.{cases_lt, ne_eqb}
 use Rattle.std.proofs.lemmas.Bool.Decides.{nat_tests}
 use Rattle.std.proofs.lemmas.Str.{encode_ascii}
-use Rattle.json_text.specs.CharacterSteps.{take_byte, first_byte, next_byte, grown, whole, is_front, is_scalar, is_within}
+use Rattle.json_text.specs.CharacterSteps.{take_byte, first_byte, next_byte, grow, whole, is_front, is_scalar, is_within}
 use Rattle.json_text.specs.Strings.{IsPlain}
 use Rattle.json_text.specs.declared.character.Part.{Part}
 use Rattle.json_text.specs.declared.character.Taken.{Taken}
@@ -65,7 +65,7 @@ first_four f most =
 
 -- ---- a further byte
 
-pub next_is : (left front r : ℕ) → r < 64 → next_byte left front (128 + r) ≡ grown (left - 1) (front * 64 + r)
+pub next_is : (left front r : ℕ) → r < 64 → next_byte left front (128 + r) ≡ grow (left - 1) (front * 64 + r)
 next_is left front r small =
     let bits : 128 + r - 128 ≡ r = omega arith in
     rw (inside 128 191 (128 + r) (omega arith) (omega arith), bits) refl

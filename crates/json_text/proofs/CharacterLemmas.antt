@@ -6,7 +6,7 @@ use Rattle.std.proofs.lemmas.Bool.Decides.{nat_tests}
 use Rattle.json_text.specs.declared.character.Part.TheVariants.{Code, High, Low}
 use Rattle.json_text.specs.declared.character.Taken.{Taken}
 use Rattle.json_text.specs.declared.character.Taken.TheVariants.{More, Whole}
-use Rattle.json_text.specs.CharacterSteps.{is_sound, is_sound_taken, is_utf8_front, is_code_front, is_low_front, is_within, is_scalar, whole, code_grown, low_grown}
+use Rattle.json_text.specs.CharacterSteps.{is_sound, is_sound_taken, is_utf8_front, is_code_front, is_low_front, is_within, is_scalar, whole, grow_code, grow_low}
 
 -- what came of a byte is sound, if anything came
 abbrev pub Sound : Option Taken → Type 0
@@ -38,7 +38,7 @@ code_2 value digit sound small e = grind (arith, nat_tests)
 code_3 : (value digit : ℕ) → is_code_front 2 value ≡ true → digit < 16 → is_code_front 3 (value * 16 + digit) ≡ true
 code_3 value digit sound small = grind (arith, nat_tests)
 
-pub code_sound : (digits value digit : ℕ) → is_sound (Code digits value) ≡ true → digit < 16 → IfSome (code_grown digits (value * 16 + digit)) (λ taken. is_sound_taken taken ≡ true)
+pub code_sound : (digits value digit : ℕ) → is_sound (Code digits value) ≡ true → digit < 16 → IfSome (grow_code digits (value * 16 + digit)) (λ taken. is_sound_taken taken ≡ true)
 code_sound zero value digit sound small = code_1 value digit sound small
 code_sound (suc zero) value digit sound small =
     sound_by (is_within 220 223 (value * 16 + digit)) None (Some (More (Code 2 (value * 16 + digit)))) (λ e. tt) (λ e. code_2 value digit sound small e)
@@ -60,7 +60,7 @@ and_true : (a b : Bool) → a ≡ true → b ≡ true → (a && b) ≡ true
 and_true true b e f = f
 and_true false b e f = e
 
-pub low_sound : (high digits value digit : ℕ) → is_sound (Low high digits value) ≡ true → digit < 16 → IfSome (low_grown high digits (value * 16 + digit)) (λ taken. is_sound_taken taken ≡ true)
+pub low_sound : (high digits value digit : ℕ) → is_sound (Low high digits value) ≡ true → digit < 16 → IfSome (grow_low high digits (value * 16 + digit)) (λ taken. is_sound_taken taken ≡ true)
 low_sound high zero value digit sound small =
     let parts = and_parts (is_within 55296 56319 high) (is_low_front 0 value) sound in
     sound_by (not (value * 16 + digit == 13) || false) None (Some (More (Low high 1 (value * 16 + digit)))) (λ e. tt)

@@ -3,7 +3,7 @@ use Rattle.std.proofs.Common.{◌≡◌, ◌≤◌, ◌<◌, ℕ, ◌+◌, ◌-�
 use Rattle.std.specs.Char.{encode_utf8}
 use Rattle.std.specs.Char.Utf16.{is_high_surrogate, is_low_surrogate, surrogate_pair_char}
 use Rattle.std.proofs.lemmas.Bool.Decides.{Decides-eqb, nat_tests}
-use Rattle.json_text.specs.CharacterSteps.{only, is_scalar, is_within, low_grown}
+use Rattle.json_text.specs.CharacterSteps.{only, is_scalar, is_within, grow_low}
 use Rattle.json_text.specs.Strings.{SpellsCharacter, code, pair, IsUnit, unit_text}
 use Rattle.json_text.specs.declared.character.Part.{Part}
 use Rattle.json_text.proofs.Completion.{Finishes, FinishesOn}
@@ -26,7 +26,7 @@ pub record HasLow (text : List ℕ) (high character : ℕ) : Type 0 where
   pub character_is : surrogate_pair_char high low ≡ character
 
 -- the first digit is 13
-first_low : (high value : ℕ) (bytes : List ℕ) (character : ℕ) → FinishesOn bytes (low_grown high 0 value) character (λ more. Finishes bytes character more) →
+first_low : (high value : ℕ) (bytes : List ℕ) (character : ℕ) → FinishesOn bytes (grow_low high 0 value) character (λ more. Finishes bytes character more) →
     (value ≡ 13) × Finishes bytes character (Part.Low high 1 value)
 first_low high value bytes character h =
     elim (on_if (((0 == 0) && not (value == 13)) || ((0 == 1) && nat_lt value 220)) _ _ bytes character (λ more. Finishes bytes character more) h) as (λ _. (value ≡ 13) × Finishes bytes character (Part.Low high 1 value)) [
@@ -35,7 +35,7 @@ first_low high value bytes character h =
     ]
 
 -- the first two are 220 or more
-second_low : (high value : ℕ) (bytes : List ℕ) (character : ℕ) → FinishesOn bytes (low_grown high 1 value) character (λ more. Finishes bytes character more) →
+second_low : (high value : ℕ) (bytes : List ℕ) (character : ℕ) → FinishesOn bytes (grow_low high 1 value) character (λ more. Finishes bytes character more) →
     (220 ≤ value) × Finishes bytes character (Part.Low high 2 value)
 second_low high value bytes character h =
     elim (on_if (((1 == 0) && not (value == 13)) || ((1 == 1) && nat_lt value 220)) _ _ bytes character (λ more. Finishes bytes character more) h) as (λ _. (220 ≤ value) × Finishes bytes character (Part.Low high 2 value)) [
@@ -43,7 +43,7 @@ second_low high value bytes character h =
       | inr t ↦ (let e = t.0 in grind (arith, nat_tests), t.1)
     ]
 
-last_low : (high value : ℕ) (bytes : List ℕ) (character : ℕ) → FinishesOn bytes (low_grown high 3 value) character (λ more. Finishes bytes character more) →
+last_low : (high value : ℕ) (bytes : List ℕ) (character : ℕ) → FinishesOn bytes (grow_low high 3 value) character (λ more. Finishes bytes character more) →
     (surrogate_pair_char high value ≡ character) × (bytes ≡ [])
 last_low high value bytes character h =
     elim (on_if (is_scalar (65536 + (high - 55296) * 1024 + (value - 56320))) _ _ bytes character (λ more. Finishes bytes character more) h) as (λ _. (surrogate_pair_char high value ≡ character) × (bytes ≡ [])) [

@@ -3,13 +3,13 @@ use Rattle.std.proofs.Common.{inl, inr, ℕ, true, false, List, [], ◌∷◌, �
 use Rattle.std.specs.Prelude.{codes}
 use Rattle.std.specs.Str.{IsUtf8}
 use Rattle.json_text.specs.Numbers.{IsJsonNumber}
-use Rattle.json_text.specs.Strings.{escaped}
+use Rattle.json_text.specs.Strings.{escape}
 use Rattle.json_text.specs.Tree.{Json, Null, Truth, Number, Str, Array, Object, Items, no_items, item, Members, no_members, member}
 use Rattle.json_text.specs.Spelling.{IsSpace, IsSpaced, SpellsName, SpellsBare, SpellsItems, SpellsMoreItems, SpellsMembers, SpellsMoreMembers, Spells}
 use Rattle.json_text.proofs.TextLemmas.{IsPrinted, spells_text}
 
 abbrev pub quoted : List ℕ → List ℕ
-quoted bytes = 34 ∷ (escaped bytes ++ 34 ∷ [])
+quoted bytes = 34 ∷ (escape bytes ++ 34 ∷ [])
 
 abbrev mutual
   pub compact : Json → List ℕ

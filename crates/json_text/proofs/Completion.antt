@@ -6,7 +6,7 @@ use Rattle.json_text.specs.Spelling.{IsSpace, SpellsText, SpellsBare, SpellsMore
 use Rattle.json_text.specs.Strings.{SpellsCharacters}
 use Rattle.json_text.specs.CharacterSteps.{take_byte}
 use Rattle.json_text.specs.Modes.{word_text}
-use Rattle.json_text.specs.Stacks.{Opened, a_list, some_members, a_name, with_value, stack_named, closed_first, has_members}
+use Rattle.json_text.specs.Stacks.{Opened, a_list, some_members, a_name, with_value, stack_named, tree_of_first, has_members}
 use Rattle.json_text.specs.Steps.{word_value}
 use Rattle.json_text.specs.declared.character.Part.{Part}
 use Rattle.json_text.specs.declared.character.Taken.{Taken}
@@ -95,7 +95,7 @@ pub record CloseDue (byte : ℕ) (stack : List Opened) (tree : Json) (rest : Lis
   pub space : List ℕ
   pub behind : List ℕ
   pub is_space : IsSpace space
-  pub next : Closes (drop 1 stack) (closed_first stack) tree behind
+  pub next : Closes (drop 1 stack) (tree_of_first stack) tree behind
   pub parts : rest ≡ space ++ byte ∷ behind
 
 -- what a byte made of a character, with these bytes behind it, ends as that character

@@ -3,7 +3,7 @@ use Rattle.std.proofs.Common.{◌≡◌, ℕ, ◌⊎◌, refl, inr, Bool, true, 
 use Rattle.std.specs.Char.{encode_utf8}
 use Rattle.json_text.specs.Tree.{Json, Number, Str, Array, Object, no_items, no_members}
 use Rattle.json_text.specs.Modes.{word_text}
-use Rattle.json_text.specs.Stacks.{Opened, a_list, some_members, a_name, has_members, stack_named, closed_first}
+use Rattle.json_text.specs.Stacks.{Opened, a_list, some_members, a_name, has_members, stack_named, tree_of_first}
 use Rattle.json_text.specs.Steps.{word_value}
 use Rattle.json_text.specs.declared.digits.Digits.{Digits}
 use Rattle.json_text.specs.declared.digits.Digits.TheVariants.{Minus, Zero, Whole, Point, Fraction, Letter, Sign, Power}
@@ -36,7 +36,7 @@ some_name stack =
 
 some_close : (byte : ℕ) (stack : List Opened) → Some_rest (CloseDue byte stack)
 some_close byte stack =
-    let next = close_all (drop 1 stack) (closed_first stack) in
+    let next = close_all (drop 1 stack) (tree_of_first stack) in
     record { tree = next.tree; rest = byte ∷ next.rest; holds = record { space = []; behind = next.rest; is_space = tt; next = next.holds; parts = refl } }
 
 some_mark : (mark : List ℕ) (stack : List Opened) → Some_rest (MarkDue mark stack)

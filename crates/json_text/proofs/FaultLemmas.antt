@@ -6,7 +6,7 @@ use Rattle.std.proofs.Math.Seq.{take-append_seam, take-append-add, take-length}
 use Rattle.json_text.specs.Tree.{Json}
 use Rattle.json_text.specs.Spelling.{Spells}
 use Rattle.json_text.specs.Faults.{IsGoodPrefix, IsShallow, IsSyntaxFault, IsDepthFault, IsFirstFault, IsTextOf, nesting}
-use Rattle.json_text.specs.Steps.{Progress, step, run, nothing, root_of, finished, finish, ended, ended_run, fault_at, reading}
+use Rattle.json_text.specs.Steps.{Progress, step, run, nothing, root_of, end_mode, finish, ended, ended_run, fault_at, reading}
 use Rattle.json_text.specs.declared.fault.JsonFault.{JsonFault}
 use Rattle.json_text.specs.declared.fault.Stop.{Stop}
 use Rattle.json_text.specs.declared.fault.Stop.TheVariants.{Bad, Deep, Memory}
@@ -132,7 +132,7 @@ no_root (Some tree) stop e = cc
 
 early : (p : Progress) (stop : Stop) → finish p ≡ Err stop → stop ≡ Bad
 unfolding finish
-early p stop e = no_root (finished p.mode p).root stop e
+early p stop e = no_root (end_mode p.mode p).root stop e
 
 early_fault : CharacterFacts → (bytes : List ℕ) (q : Progress) (stop : Stop) → run 64 0 bytes nothing ≡ Ok q → finish q ≡ Err stop → IsSyntaxFault bytes (length bytes)
 early_fault facts bytes q stop e f = record {

@@ -5,7 +5,7 @@ use Rattle.json_text.specs.Tree.{Json, Number, Str}
 use Rattle.json_text.specs.NumberSteps.{next_digit, is_whole}
 use Rattle.json_text.specs.CharacterSteps.{take_byte}
 use Rattle.json_text.specs.Modes.{is_space, begin_of, word_text}
-use Rattle.json_text.specs.Stacks.{Opened, a_list, some_members, a_name, has_list, has_members, stack_with, stack_named, closed_first}
+use Rattle.json_text.specs.Stacks.{Opened, a_list, some_members, a_name, has_list, has_members, stack_with, stack_named, tree_of_first}
 use Rattle.json_text.specs.Steps.{Progress, go, close, end_value, root_with, word_value, begun, begin_text, behind, between, in_text, end_text, in_number, step_in, step, end_number, nothing}
 use Rattle.json_text.specs.declared.digits.Digits.{Digits}
 use Rattle.json_text.specs.declared.character.Taken.{Taken}
@@ -40,7 +40,7 @@ value_fits : (value : Json) (p : Progress) → p.root ≡ None → FitsIt (end_v
 value_fits value p e = (tt, ended_value value p.stack p.root e)
 
 close_fits : (p : Progress) → p.root ≡ None → FitsIt (close p)
-close_fits p e = (tt, ended_value (closed_first p.stack) (drop 1 p.stack) p.root e)
+close_fits p e = (tt, ended_value (tree_of_first p.stack) (drop 1 p.stack) p.root e)
 
 begun_fits : (limit : ℕ) (o : Option Begin) (b : ℕ) (p : Progress) → p.root ≡ None → FitsOk (begun limit o b p)
 begun_fits limit None b p e = tt

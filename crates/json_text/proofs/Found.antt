@@ -5,7 +5,7 @@ use Rattle.json_text.specs.Tree.{Json, Number}
 use Rattle.json_text.specs.NumberSteps.{is_whole}
 use Rattle.json_text.specs.Spelling.{SpellsBare, SpellsValue, Spells}
 use Rattle.json_text.specs.Stacks.{Opened}
-use Rattle.json_text.specs.Steps.{Progress, root_with, step, and_then, run, nothing, root_of, finished, finish, ended, ended_run, reading}
+use Rattle.json_text.specs.Steps.{Progress, root_with, step, and_then, run, nothing, root_of, end_mode, finish, ended, ended_run, reading}
 use Rattle.json_text.specs.declared.mode.Mode.{Mode}
 use Rattle.json_text.specs.declared.fault.JsonFault.{JsonFault}
 use Rattle.json_text.specs.declared.fault.Stop.{Stop}
@@ -33,7 +33,7 @@ value_end : (value : Json) (stack : List Opened) (root : Option Json) (tree : Js
 value_end value [] root tree f h = (tt, let same : Some value ≡ Some tree = the_root (Some value) tree h in cc)
 value_end value (inner ∷ outer) root tree f h = no_root root tree f h
 
-finish_in : (mode : Mode) (p : Progress) (tree : Json) → HasEnded mode p.stack p.root → root_of (finished mode p).root ≡ Ok tree → Completes mode p.token p.stack p.root tree []
+finish_in : (mode : Mode) (p : Progress) (tree : Json) → HasEnded mode p.stack p.root → root_of (end_mode mode p).root ≡ Ok tree → Completes mode p.token p.stack p.root tree []
 finish_in Mode.After p tree f h = after_end p.stack p.root tree f h
 finish_in (Mode.Number digits) p tree f h =
     by_cases_of (is_whole digits) _

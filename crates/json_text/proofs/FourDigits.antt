@@ -1,6 +1,6 @@
 -- The four hex digits of a code.
 use Rattle.std.proofs.Common.{◌≡◌, ℕ, ◌+◌, ◌*◌, ◌&&◌, ◌==◌, refl, inl, inr, List, [], ◌∷◌, Some}
-use Rattle.json_text.specs.CharacterSteps.{hex_digit, is_within, code_grown}
+use Rattle.json_text.specs.CharacterSteps.{hex_digit, is_within, grow_code}
 use Rattle.json_text.specs.Strings.{IsUnit}
 use Rattle.json_text.specs.declared.character.Part.{Part}
 use Rattle.json_text.proofs.Completion.{Finishes, FinishesOn}
@@ -18,7 +18,7 @@ pub record HasUnit (text : List ℕ) (character : ℕ) : Type 0 where
   pub unit : ℕ
   pub is_unit : IsUnit (a ∷ b ∷ c ∷ d ∷ []) unit
   pub parts : text ≡ a ∷ b ∷ c ∷ d ∷ rest
-  pub next : FinishesOn rest (code_grown 3 unit) character (λ more. Finishes rest character more)
+  pub next : FinishesOn rest (grow_code 3 unit) character (λ more. Finishes rest character more)
 
 second : (value b : ℕ) (bytes : List ℕ) (character : ℕ) → Finishes (b ∷ bytes) character (Part.Code 1 value) →
     (v : ℕ) × (hex_digit b ≡ Some v) × Finishes bytes character (Part.Code 2 (value * 16 + v))

@@ -48,3 +48,4 @@ pub mod NumberLemmas
 pub mod TextLemmas
 pub mod CompactText
 mod Examples
+pub mod LengthLemmas

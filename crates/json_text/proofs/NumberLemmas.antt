@@ -9,7 +9,7 @@ use Rattle.std.proofs.lemmas.List.{take_all, take-append-drop}
 use Rattle.std.proofs.lemmas.Str.Parse.{IsNumeralModel, numerals_by_value}
 use Rattle.std.proofs.Math.Seq.{drop-append_seam}
 use Rattle.json_text.specs.Numbers.{IsMinus, IsWholePart, IsFraction, IsExponent, IsJsonNumber}
-use Rattle.json_text.specs.NumberTest.{run, unsigned, is_digits, is_power, is_fraction, is_rest, is_bare_number, is_json_number}
+use Rattle.json_text.specs.NumberTest.{run, strip_sign, is_digits, is_power, is_fraction, is_rest, is_bare_number, is_json_number}
 use Rattle.json_text.proofs.Cases.{both, either, by_cases_of, false_true}
 
 own : IsNumeralModel (λ ds. list_all is_ascii_digit ds ≡ true) (digits_value 10)
@@ -89,7 +89,7 @@ no_digit x c e f = by_cases_of (x == c) _ (λ s. absurd (let same : x ≡ c = (D
 abbrev IsSign : List ℕ → Type 0
 IsSign sign = (sign ≡ []) ⊎ (sign ≡ 43 ∷ []) ⊎ (sign ≡ 45 ∷ [])
 
-unsigned_parts : (t : List ℕ) → (sign : List ℕ) × IsSign sign × (t ≡ sign ++ unsigned t)
+unsigned_parts : (t : List ℕ) → (sign : List ℕ) × IsSign sign × (t ≡ sign ++ strip_sign t)
 unsigned_parts [] = ([], inl refl, refl)
 unsigned_parts (y ∷ t) =
     by_cases_of (y == 43) _
@@ -100,18 +100,18 @@ unsigned_parts (y ∷ t) =
 
 power_to : (t : List ℕ) → is_power t ≡ true → IsExponent t
 power_to [] h = inl refl
-power_to (x ∷ t) h = elim (either (length (x ∷ t) == 0) (((x == 101) || (x == 69)) && is_digits (unsigned t)) h) as (λ _. IsExponent (x ∷ t)) [
+power_to (x ∷ t) h = elim (either (length (x ∷ t) == 0) (((x == 101) || (x == 69)) && is_digits (strip_sign t)) h) as (λ _. IsExponent (x ∷ t)) [
   | inl e ↦ absurd (let none : length (x ∷ t) ≡ 0 = (Decides-eqb (length (x ∷ t)) 0).0 e in omega arith)
   | inr e ↦
-      (let parts = both ((x == 101) || (x == 69)) (is_digits (unsigned t)) e in
+      (let parts = both ((x == 101) || (x == 69)) (is_digits (strip_sign t)) e in
       let sign = unsigned_parts t in
       inr (record {
         letter = x;
         sign = sign.0;
-        digits = unsigned t;
+        digits = strip_sign t;
         letter_is = letter x parts.0;
         sign_is = sign.1;
-        numeral = digits_to (unsigned t) parts.1;
+        numeral = digits_to (strip_sign t) parts.1;
         parts = ap (λ (ys : List ℕ). x ∷ ys) sign.2;
       }))
 ]
@@ -119,11 +119,11 @@ power_to (x ∷ t) h = elim (either (length (x ∷ t) == 0) (((x == 101) || (x =
     letter : (x : ℕ) → ((x == 101) || (x == 69)) ≡ true → (x ≡ 101) ⊎ (x ≡ 69)
     letter x e = elim (either (x == 101) (x == 69) e) as (λ _. (x ≡ 101) ⊎ (x ≡ 69)) [ inl k ↦ inl ((Decides-eqb x 101).0 k) | inr k ↦ inr ((Decides-eqb x 69).0 k) ]
 
-unsigned_none : (t : List ℕ) → is_ascii_digit (slice_index t 0) ≡ true → unsigned t ≡ t
+unsigned_none : (t : List ℕ) → is_ascii_digit (slice_index t 0) ≡ true → strip_sign t ≡ t
 unsigned_none t e = rw (no_digit (slice_index t 0) 43 e refl, no_digit (slice_index t 0) 45 e refl) refl
 
-unsigned_from : (sign ds : List ℕ) → IsSign sign → IsNumeral 10 ds → unsigned (sign ++ ds) ≡ ds
-unsigned_from sign ds is numeral = elim is as (λ _. unsigned (sign ++ ds) ≡ ds) [
+unsigned_from : (sign ds : List ℕ) → IsSign sign → IsNumeral 10 ds → strip_sign (sign ++ ds) ≡ ds
+unsigned_from sign ds is numeral = elim is as (λ _. strip_sign (sign ++ ds) ≡ ds) [
   | inl e ↦ rw e (unsigned_none ds (subst (λ (t : List ℕ). is_ascii_digit (slice_index t 0) ≡ true) (append-nil ds) (first_digit ds [] numeral)))
   | inr (inl e) ↦ rw e refl
   | inr (inr e) ↦ rw e refl
@@ -132,17 +132,17 @@ unsigned_from sign ds is numeral = elim is as (λ _. unsigned (sign ++ ds) ≡ d
 power_from : (t : List ℕ) → IsExponent t → is_power t ≡ true
 power_from t (inl e) = rw e refl
 power_from t (inr is) =
-    let digits : is_digits (unsigned (is.sign ++ is.digits)) ≡ true = rw (unsigned_from is.sign is.digits is.sign_is is.numeral) (digits_from is.digits is.numeral) in
+    let digits : is_digits (strip_sign (is.sign ++ is.digits)) ≡ true = rw (unsigned_from is.sign is.digits is.sign_is is.numeral) (digits_from is.digits is.numeral) in
     subst (λ (u : List ℕ). is_power u ≡ true) (sym is.parts)
     (elim is.letter_is as (λ _. is_power (is.letter ∷ (is.sign ++ is.digits)) ≡ true) [
       | inl e ↦ subst (λ (x : ℕ). is_power (x ∷ (is.sign ++ is.digits)) ≡ true) (sym e) (with_letter 101 (is.sign ++ is.digits) refl digits)
       | inr e ↦ subst (λ (x : ℕ). is_power (x ∷ (is.sign ++ is.digits)) ≡ true) (sym e) (with_letter 69 (is.sign ++ is.digits) refl digits)
     ])
   where
-    with_letter : (x : ℕ) (t : List ℕ) → ((x == 101) || (x == 69)) ≡ true → is_digits (unsigned t) ≡ true → is_power (x ∷ t) ≡ true
+    with_letter : (x : ℕ) (t : List ℕ) → ((x == 101) || (x == 69)) ≡ true → is_digits (strip_sign t) ≡ true → is_power (x ∷ t) ≡ true
     with_letter x t e f =
         let none : (length (x ∷ t) == 0) ≡ false = grind (arith, nat_tests) in
-        rw none (and_true ((x == 101) || (x == 69)) (is_digits (unsigned t)) e f)
+        rw none (and_true ((x == 101) || (x == 69)) (is_digits (strip_sign t)) e f)
 
 -- what follows digits
 exponent_first : (t : List ℕ) → IsExponent t → (is_ascii_digit (slice_index t 0) ≡ false) × ((slice_index t 0 == 46) ≡ false)

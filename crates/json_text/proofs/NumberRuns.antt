@@ -5,7 +5,7 @@ use Rattle.std.proofs.lemmas.Bool.Decides.{nat_tests, Decides-eqb}
 use Rattle.json_text.specs.declared.digits.Digits.{Digits}
 use Rattle.json_text.specs.declared.digits.Digits.TheVariants.{Minus, Zero, Whole, Point, Fraction, Letter, Sign, Power}
 use Rattle.json_text.specs.NumberSteps.{letter, first_digit, next_digit, is_whole}
-use Rattle.json_text.specs.NumberTest.{run, unsigned, is_digits, is_power, is_fraction, is_rest, is_bare_number, is_json_number}
+use Rattle.json_text.specs.NumberTest.{run, strip_sign, is_digits, is_power, is_fraction, is_rest, is_bare_number, is_json_number}
 use Rattle.std.proofs.lemmas.Bool.{ne_eqb}
 use Rattle.json_text.proofs.Cases.{by_cases_of}
 use Rattle.json_text.proofs.NumberLemmas.{no_digit}
@@ -79,7 +79,7 @@ of_sign (x ∷ t) =
     (λ e. step_to Sign Power x t (rw e refl) ∙ of_power t ∙ sym (digits_more x t e))
     (λ e. no_step Sign x t (rw e refl) ∙ sym (no_digits x t e))
 
-pub of_letter : (t : List ℕ) → accepts t Letter ≡ is_digits (unsigned t)
+pub of_letter : (t : List ℕ) → accepts t Letter ≡ is_digits (strip_sign t)
 of_letter [] = refl
 of_letter (x ∷ t) =
     by_cases_of (is_ascii_digit x) _

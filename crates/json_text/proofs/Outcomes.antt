@@ -9,7 +9,7 @@ use Rattle.json_text.specs.Faults.Place.{Outside, Quoted}
 use Rattle.json_text.specs.NumberSteps.{first_digit, next_digit, is_whole, or_digit, letter, sign, behind_whole, after_minus}
 use Rattle.json_text.specs.CharacterSteps.{take_byte}
 use Rattle.json_text.specs.Modes.{is_space, begin_of, word_text, number_begun}
-use Rattle.json_text.specs.Stacks.{Opened, a_list, some_members, a_name, has_list, has_members, stack_with, stack_named, closed_first}
+use Rattle.json_text.specs.Stacks.{Opened, a_list, some_members, a_name, has_list, has_members, stack_with, stack_named, tree_of_first}
 use Rattle.json_text.specs.Steps.{Progress, go, close, end_value, root_with, word_value, enter, begun, begin_text, behind, bare_between, between, in_text, end_text, in_number, in_word, step_in, step, end_number}
 use Rattle.json_text.specs.declared.digits.Digits.{Digits}
 use Rattle.json_text.specs.declared.digits.Digits.TheVariants.{Minus, Zero, Whole, Point, Fraction, Letter, Sign, Power}
@@ -82,9 +82,9 @@ drop_long (inner ∷ outer) = omega arith
 
 close_moves : (limit b : ℕ) (p : Progress) → Counts Outside (length p.stack) b Outside (length p.stack - 1) → Moves limit (length p.stack) Outside b (close p)
 close_moves limit b p h =
-    let long : length (close p).stack ≡ length p.stack - 1 = value_long (closed_first p.stack) (drop 1 p.stack) ∙ drop_long p.stack in
+    let long : length (close p).stack ≡ length p.stack - 1 = value_long (tree_of_first p.stack) (drop 1 p.stack) ∙ drop_long p.stack in
     record {
-      goes_on = value_place (closed_first p.stack) (drop 1 p.stack) p.root;
+      goes_on = value_place (tree_of_first p.stack) (drop 1 p.stack) p.root;
       near = omega arith;
       within = λ room. omega arith;
       counts = counts_to Outside (length p.stack) b Outside (length p.stack - 1) (length (close p).stack) (sym long) h;

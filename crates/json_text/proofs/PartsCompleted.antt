@@ -1,8 +1,8 @@
 -- Each sound part of a character can be completed.
-use Rattle.std.proofs.Common.{◌≡◌, ◌≢◌, ◌≤◌, ◌<◌, ℕ, zero, suc, ◌+◌, ◌-◌, ◌*◌, ◌==◌, nat_lt, refl, sym, inl, inr, arith, true, false, List, [], ◌∷◌, append-nil, Some}
+use Rattle.std.proofs.Common.{◌≡◌, ◌≢◌, ◌≤◌, ◌<◌, ℕ, zero, suc, ◌+◌, ◌-◌, ◌*◌, ◌==◌, nat_lt, refl, inl, inr, arith, true, false, List, [], ◌∷◌, Some}
 use Rattle.std.proofs.lemmas.Bool.{and_parts, cases_eq}
 use Rattle.std.proofs.lemmas.Bool.Decides.{nat_tests}
-use Rattle.json_text.specs.CharacterSteps.{take_byte, is_front, is_scalar, is_within, is_sound, is_utf8_front, is_code_front, is_low_front, low_grown}
+use Rattle.json_text.specs.CharacterSteps.{take_byte, is_front, is_scalar, is_within, is_sound, is_utf8_front, is_code_front, is_low_front, grow_low}
 use Rattle.json_text.specs.declared.character.Part.{Part}
 use Rattle.json_text.specs.declared.character.Taken.{Taken}
 use Rattle.json_text.proofs.Cases.{by_cases_of, false_true}
@@ -91,14 +91,14 @@ low_2 high value sound = behind (Part.Low high 2 value) (Part.Low high 3 (value 
 low_1 : (high value : ℕ) → is_sound (Part.Low high 1 value) ≡ true → Completed (Part.Low high 1 value)
 low_1 high value sound =
     let more : nat_lt (value * 16 + 12) 220 ≡ false = grind (arith, nat_tests) in
-    let next : low_grown high 1 (value * 16 + 12) ≡ Some (Taken.More (Part.Low high 2 (value * 16 + 12))) = rw more refl in
+    let next : grow_low high 1 (value * 16 + 12) ≡ Some (Taken.More (Part.Low high 2 (value * 16 + 12))) = rw more refl in
     let next_sound : is_sound (Part.Low high 2 (value * 16 + 12)) ≡ true = grind (arith, nat_tests) in
     behind (Part.Low high 1 value) (Part.Low high 2 (value * 16 + 12)) 67 next (low_2 high (value * 16 + 12) next_sound)
 
 low_0 : (high value : ℕ) → is_sound (Part.Low high 0 value) ≡ true → Completed (Part.Low high 0 value)
 low_0 high value sound =
     let same : (value * 16 + 13 == 13) ≡ true = grind (arith, nat_tests) in
-    let next : low_grown high 0 (value * 16 + 13) ≡ Some (Taken.More (Part.Low high 1 (value * 16 + 13))) = rw same refl in
+    let next : grow_low high 0 (value * 16 + 13) ≡ Some (Taken.More (Part.Low high 1 (value * 16 + 13))) = rw same refl in
     let next_sound : is_sound (Part.Low high 1 (value * 16 + 13)) ≡ true = grind (arith, nat_tests) in
     behind (Part.Low high 0 value) (Part.Low high 1 (value * 16 + 13)) 68 next (low_1 high (value * 16 + 13) next_sound)
 

@@ -2,7 +2,7 @@
 use Rattle.std.proofs.Common.{◌≡◌, ◌≤◌, ◌<◌, ◌⊎◌, ℕ, ◌+◌, ◌-◌, ◌*◌, ◌==◌, refl, sym, ap, ◌∙◌, subst, inl, inr, arith, Bool, true, false, cond, List, [], ◌∷◌, Option, None, Some}
 use Rattle.std.specs.Char.{encode_utf8}
 use Rattle.std.proofs.lemmas.Bool.Decides.{nat_tests}
-use Rattle.json_text.specs.CharacterSteps.{grown, is_front, is_scalar, is_within}
+use Rattle.json_text.specs.CharacterSteps.{grow, is_front, is_scalar, is_within}
 use Rattle.json_text.specs.Strings.{SpellsCharacter, plain}
 use Rattle.json_text.specs.declared.character.Part.{Part}
 use Rattle.json_text.specs.declared.character.Taken.{Taken}
@@ -20,9 +20,9 @@ tail_of : (byte : ℕ) → is_within 128 191 byte ≡ true → IsTail byte (byte
 tail_of byte e = record { small = grind (arith, nat_tests); byte_is = grind (arith, nat_tests) }
 
 tail_step : (left front byte : ℕ) (bytes : List ℕ) (character : ℕ) → Finishes (byte ∷ bytes) character (Part.Utf8 left front) →
-    IsTail byte (byte - 128) × FinishesOn bytes (grown (left - 1) (front * 64 + (byte - 128))) character (λ more. Finishes bytes character more)
+    IsTail byte (byte - 128) × FinishesOn bytes (grow (left - 1) (front * 64 + (byte - 128))) character (λ more. Finishes bytes character more)
 tail_step left front byte bytes character h =
-    elim (on_if (is_within 128 191 byte) _ _ bytes character (λ more. Finishes bytes character more) h) as (λ _. IsTail byte (byte - 128) × FinishesOn bytes (grown (left - 1) (front * 64 + (byte - 128))) character (λ more. Finishes bytes character more)) [
+    elim (on_if (is_within 128 191 byte) _ _ bytes character (λ more. Finishes bytes character more) h) as (λ _. IsTail byte (byte - 128) × FinishesOn bytes (grow (left - 1) (front * 64 + (byte - 128))) character (λ more. Finishes bytes character more)) [
       | inl t ↦ (tail_of byte t.0, t.1)
       | inr t ↦ absurd t.1
     ]

@@ -3,7 +3,7 @@ use Rattle.std.proofs.Common.{◌≡◌, ◌<◌, ℕ, zero, suc, ◌+◌, ◌-�
 use Rattle.std.proofs.lemmas.Bool.Decides.{nat_tests}
 use Rattle.json_text.specs.declared.character.Part.{Part}
 use Rattle.json_text.specs.declared.character.Taken.{Taken}
-use Rattle.json_text.specs.CharacterSteps.{take_byte, first_byte, next_byte, grown, whole, escaped_letter, next_of_code, next_of_low, hex_digit, is_sound, is_utf8_front, is_front, is_scalar, is_within}
+use Rattle.json_text.specs.CharacterSteps.{take_byte, first_byte, next_byte, grow, whole, escaped_letter, next_of_code, next_of_low, hex_digit, is_sound, is_utf8_front, is_front, is_scalar, is_within}
 use Rattle.json_text.proofs.Cases.{false_true}
 use Rattle.json_text.proofs.HexDigits.{hex_small}
 use Rattle.json_text.proofs.CharacterLemmas.{Sound, sound_by, whole_sound, utf8_few, code_sound, low_sound}
@@ -42,10 +42,10 @@ next_sound zero front byte sound = false_true sound
 next_sound (suc zero) front byte sound = sound_by (is_within 128 191 byte) (whole (front * 64 + (byte - 128))) None (λ e. whole_sound (front * 64 + (byte - 128))) (λ e. tt)
 next_sound (suc (suc zero)) front byte sound =
     let more = front * 64 + (byte - 128) in
-    sound_by (is_within 128 191 byte) (grown 1 more) None (λ e. sound_by (is_front 1 more) (Some (Taken.More (Part.Utf8 1 more))) None (front_1 front byte sound e) (λ f. tt)) (λ e. tt)
+    sound_by (is_within 128 191 byte) (grow 1 more) None (λ e. sound_by (is_front 1 more) (Some (Taken.More (Part.Utf8 1 more))) None (front_1 front byte sound e) (λ f. tt)) (λ e. tt)
 next_sound (suc (suc (suc zero))) front byte sound =
     let more = front * 64 + (byte - 128) in
-    sound_by (is_within 128 191 byte) (grown 2 more) None (λ e. sound_by (is_front 2 more) (Some (Taken.More (Part.Utf8 2 more))) None (front_2 more) (λ f. tt)) (λ e. tt)
+    sound_by (is_within 128 191 byte) (grow 2 more) None (λ e. sound_by (is_front 2 more) (Some (Taken.More (Part.Utf8 2 more))) None (front_2 more) (λ f. tt)) (λ e. tt)
 next_sound (suc (suc (suc (suc k)))) front byte sound = absurd (let few = utf8_few (suc (suc (suc (suc k)))) front sound in omega arith)
 
 -- ---- escapes

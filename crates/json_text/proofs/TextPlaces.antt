@@ -3,7 +3,7 @@ use Rattle.std.proofs.Common.{◌≡◌, ◌==◌, ◌&&◌, ◌||◌, not, nat_
 use Rattle.std.proofs.lemmas.Bool.Decides.{Decides-eqb}
 use Rattle.json_text.specs.Faults.{Place}
 use Rattle.json_text.specs.Faults.Place.{Outside, Quoted, Escaped}
-use Rattle.json_text.specs.CharacterSteps.{take_byte, whole, is_scalar, is_within, grown, is_front, next_of_code, next_of_low, hex_digit}
+use Rattle.json_text.specs.CharacterSteps.{take_byte, whole, is_scalar, is_within, grow, is_front, next_of_code, next_of_low, hex_digit}
 use Rattle.json_text.specs.declared.character.Part.{Part}
 use Rattle.json_text.specs.declared.character.Taken.{Taken}
 use Rattle.json_text.proofs.Cases.{by_cases_of}
@@ -23,7 +23,7 @@ turns_if place n b false x y h k = k
 whole_turns : (place : Place) (n b code : ℕ) → Counts place n b Quoted n → Turns place n b (whole code)
 whole_turns place n b code h = turns_if place n b (is_scalar code) _ _ h tt
 
-grown_turns : (n b left front : ℕ) → Counts Quoted n b Quoted n → Turns Quoted n b (grown left front)
+grown_turns : (n b left front : ℕ) → Counts Quoted n b Quoted n → Turns Quoted n b (grow left front)
 grown_turns n b left front h = turns_if Quoted n b (left == 0) _ _ (whole_turns Quoted n b front h) (turns_if Quoted n b (is_front left front) _ _ h tt)
 
 -- a hex digit is no quote and no backslash

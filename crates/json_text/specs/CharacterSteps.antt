@@ -30,12 +30,12 @@ first_byte byte =
 abbrev pub is_front : ℕ → ℕ → Bool
 is_front left front = if left == 1 then nat_le 32 front && not (is_within 864 895 front) else is_within 16 271 front
 
-abbrev pub grown : ℕ → ℕ → Option Taken
-grown left front = if left == 0 then whole front else (if is_front left front then Some (More (Utf8 left front)) else None)
+abbrev pub grow : ℕ → ℕ → Option Taken
+grow left front = if left == 0 then whole front else (if is_front left front then Some (More (Utf8 left front)) else None)
 
 -- a further byte of UTF-8, with six more bits
 abbrev pub next_byte : ℕ → ℕ → ℕ → Option Taken
-next_byte left front byte = if is_within 128 191 byte then grown (left - 1) (front * 64 + (byte - 128)) else None
+next_byte left front byte = if is_within 128 191 byte then grow (left - 1) (front * 64 + (byte - 128)) else None
 
 -- the letter behind a backslash
 abbrev pub escaped_letter : ℕ → Option Taken
@@ -56,25 +56,25 @@ hex_digit byte =
     else (if is_within 65 70 byte then Some (byte - 55) else None))
 
 -- So many hex digits of a code and one more, with that value. No code begins as that of a low surrogate.
-abbrev pub code_grown : ℕ → ℕ → Option Taken
-code_grown digits value =
+abbrev pub grow_code : ℕ → ℕ → Option Taken
+grow_code digits value =
     if (digits == 1) && is_within 220 223 value then None
     else (if nat_lt digits 3 then Some (More (Code (digits + 1) value))
     else (if is_within 55296 56319 value then Some (More (High value)) else whole value))
 
 abbrev pub next_of_code : ℕ → ℕ → Option ℕ → Option Taken
 next_of_code digits value None = None
-next_of_code digits value (Some digit) = code_grown digits (value * 16 + digit)
+next_of_code digits value (Some digit) = grow_code digits (value * 16 + digit)
 
 -- so many hex digits of a low surrogate and one more, with that value
-abbrev pub low_grown : ℕ → ℕ → ℕ → Option Taken
-low_grown high digits value =
+abbrev pub grow_low : ℕ → ℕ → ℕ → Option Taken
+grow_low high digits value =
     if ((digits == 0) && not (value == 13)) || ((digits == 1) && nat_lt value 220) then None
     else (if nat_lt digits 3 then Some (More (Low high (digits + 1) value)) else whole (65536 + (high - 55296) * 1024 + (value - 56320)))
 
 abbrev pub next_of_low : ℕ → ℕ → ℕ → Option ℕ → Option Taken
 next_of_low high digits value None = None
-next_of_low high digits value (Some digit) = low_grown high digits (value * 16 + digit)
+next_of_low high digits value (Some digit) = grow_low high digits (value * 16 + digit)
 
 -- that part, where the byte is the only one that may stand there
 abbrev pub only : ℕ → ℕ → Part → Option Taken

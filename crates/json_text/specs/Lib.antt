@@ -10,3 +10,4 @@ pub mod CharacterSteps
 pub mod Modes
 pub mod Stacks
 pub mod Steps
+pub mod Lengths

@@ -8,8 +8,8 @@ abbrev pub run : List ℕ → ℕ
 run text = position_or_len (λ byte. not (is_ascii_digit byte)) text
 
 -- what stands behind a plus or a minus, where there is one
-abbrev pub unsigned : List ℕ → List ℕ
-unsigned text = if (slice_index text 0 == 43) || (slice_index text 0 == 45) then drop 1 text else text
+abbrev pub strip_sign : List ℕ → List ℕ
+strip_sign text = if (slice_index text 0 == 43) || (slice_index text 0 == 45) then drop 1 text else text
 
 -- digits alone, one or more
 abbrev pub is_digits : List ℕ → Bool
@@ -17,7 +17,7 @@ is_digits text = nat_lt 0 (run text) && (run text == length text)
 
 -- nothing, or a letter e, a sign or none, and digits
 abbrev pub is_power : List ℕ → Bool
-is_power text = (length text == 0) || (((slice_index text 0 == 101) || (slice_index text 0 == 69)) && is_digits (unsigned (drop 1 text)))
+is_power text = (length text == 0) || (((slice_index text 0 == 101) || (slice_index text 0 == 69)) && is_digits (strip_sign (drop 1 text)))
 
 -- digits, and then a power or nothing
 abbrev pub is_fraction : List ℕ → Bool

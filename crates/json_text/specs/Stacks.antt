@@ -65,11 +65,11 @@ stack_named name [] = []
 stack_named name (inner ∷ outer) = with_name name inner ∷ outer
 
 -- the value that it is where it closes
-abbrev pub closed : Opened → Json
-closed (a_list trees) = array trees
-closed (some_members pairs) = object pairs
-closed (a_name pairs name) = object pairs
+abbrev pub tree_of : Opened → Json
+tree_of (a_list trees) = array trees
+tree_of (some_members pairs) = object pairs
+tree_of (a_name pairs name) = object pairs
 
-abbrev pub closed_first : List Opened → Json
-closed_first [] = Null
-closed_first (inner ∷ outer) = closed inner
+abbrev pub tree_of_first : List Opened → Json
+tree_of_first [] = Null
+tree_of_first (inner ∷ outer) = tree_of inner

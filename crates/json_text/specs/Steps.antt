@@ -7,7 +7,7 @@ use Rattle.json_text.specs.Values.{json_of}
 use Rattle.json_text.specs.NumberSteps.{next_digit, is_whole}
 use Rattle.json_text.specs.CharacterSteps.{take_byte}
 use Rattle.json_text.specs.Modes.{is_sound_mode, is_space, word_text, begin_of}
-use Rattle.json_text.specs.Stacks.{Opened, a_list, some_members, stack_of, has_list, has_members, stack_with, stack_named, closed_first}
+use Rattle.json_text.specs.Stacks.{Opened, a_list, some_members, stack_of, has_list, has_members, stack_with, stack_named, tree_of_first}
 use Rattle.json_text.specs.declared.digits.Digits.{Digits}
 use Rattle.json_text.specs.declared.character.Part.{Part}
 use Rattle.json_text.specs.declared.character.Taken.{Taken}
@@ -46,7 +46,7 @@ abbrev pub end_value : Json → Progress → Progress
 end_value tree p = record { mode = Mode.After; token = []; stack = stack_with tree p.stack; root = root_with tree p.stack p.root }
 
 abbrev pub close : Progress → Progress
-close p = end_value (closed_first p.stack) (record { mode = p.mode; token = p.token; stack = drop 1 p.stack; root = p.root })
+close p = end_value (tree_of_first p.stack) (record { mode = p.mode; token = p.token; stack = drop 1 p.stack; root = p.root })
 
 abbrev pub begin_text : ℕ → Progress → Result Progress Stop
 begin_text byte p = if byte == 34 then Ok (record { mode = Mode.Text Part.Due; token = []; stack = p.stack; root = p.root }) else Err Bad
@@ -151,12 +151,12 @@ abbrev pub root_of : Option Json → Result Json Stop
 root_of None = Err Bad
 root_of (Some tree) = Ok tree
 
-abbrev pub finished : Mode → Progress → Progress
-finished (Mode.Number digits) p = if is_whole digits then end_number p else p
-finished _ p = p
+abbrev pub end_mode : Mode → Progress → Progress
+end_mode (Mode.Number digits) p = if is_whole digits then end_number p else p
+end_mode _ p = p
 
 unfoldable pub finish : Progress → Result Json Stop
-finish p = root_of (finished p.mode p).root
+finish p = root_of (end_mode p.mode p).root
 
 -- what a call made of it is that, unless memory ran out
 abbrev pub Makes : {X : Type 0} → Result X Stop → Result Progress Stop → Progress → Type 0

@@ -45,5 +45,5 @@ pub record SpellsCharacters (bytes text : List ℕ) : Type 0 where
 abbrev pub escaped_byte : ℕ → List ℕ
 escaped_byte byte = (if (byte == 34) || (byte == 92) then 92 ∷ byte ∷ [] else byte ∷ [])
 
-abbrev pub escaped : List ℕ → List ℕ
-escaped bytes = flat_map escaped_byte bytes
+abbrev pub escape : List ℕ → List ℕ
+escape bytes = flat_map escaped_byte bytes

@@ -1,6 +1,6 @@
 // Characters of a text, byte by byte.
 ghost use Rattle.std.specs.Prelude.{◌≡◌, ◌≤◌, ◌<◌, true, IfSome};
-ghost use Rattle.json_text.specs.CharacterSteps.{take_byte, first_byte, next_byte, grown, is_front, whole, escaped_letter, next_of_code, code_grown, next_of_low, low_grown, hex_digit, only, is_sound, is_sound_taken};
+ghost use Rattle.json_text.specs.CharacterSteps.{take_byte, first_byte, next_byte, grow, is_front, whole, escaped_letter, next_of_code, grow_code, next_of_low, grow_low, hex_digit, only, is_sound, is_sound_taken};
 
 // How far a character of a text has come.
 #[derive(Clone, Copy)]
@@ -105,12 +105,12 @@ fn next_byte(left: u8, front: u32, byte: u8) -> Option<Taken>
     if !(128..=191).contains(&byte) {
         return None;
     }
-    grown(left - 1, front * 64 + (byte as u32 - 128))
+    grow(left - 1, front * 64 + (byte as u32 - 128))
 }
 
 // The character with these bits in front and so many bytes still to come, where there may be one.
-fn grown(left: u8, front: u32) -> Option<Taken>
-    ensures { result ≡ grown left front }
+fn grow(left: u8, front: u32) -> Option<Taken>
+    ensures { result ≡ grow left front }
 {
     if left == 0 {
         whole(front)
@@ -171,12 +171,12 @@ fn next_of_code(digits: u8, value: u32, byte: u8) -> Option<Taken>
     let Some(digit) = hex_digit(byte) else {
         return None;
     };
-    code_grown(digits, value * 16 + digit)
+    grow_code(digits, value * 16 + digit)
 }
 
 // So many hex digits of a code and one more, with that value.
-fn code_grown(digits: u8, value: u32) -> Option<Taken>
-    ensures { result ≡ code_grown digits value }
+fn grow_code(digits: u8, value: u32) -> Option<Taken>
+    ensures { result ≡ grow_code digits value }
 {
     if digits == 1 && (220..=223).contains(&value) {
         None
@@ -201,16 +201,16 @@ fn next_of_low(high: u32, digits: u8, value: u32, byte: u8) -> Option<Taken>
     let Some(digit) = hex_digit(byte) else {
         return None;
     };
-    low_grown(high, digits, value * 16 + digit)
+    grow_low(high, digits, value * 16 + digit)
 }
 
 // So many hex digits of a low surrogate and one more, with that value.
-fn low_grown(high: u32, digits: u8, value: u32) -> Option<Taken>
+fn grow_low(high: u32, digits: u8, value: u32) -> Option<Taken>
     requires small { value < 65536 }
     requires low { 55296 ≤ high }
     requires high { high ≤ 56319 }
     requires begun { 3 ≤ digits → 56320 ≤ value }
-    ensures { result ≡ low_grown high digits value }
+    ensures { result ≡ grow_low high digits value }
 {
     if (digits == 0 && value != 13) || (digits == 1 && value < 220) {
         None

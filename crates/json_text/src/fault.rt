@@ -23,7 +23,7 @@ pub enum JsonFault {
         /// The place of the first opening bracket or brace that nests 65 deep. Places count from 0, and a byte order mark counts.
         at: usize,
     },
-    /// Memory is wanting. No other cause has this answer.
+    /// Out of memory. No other cause has this answer.
     #[error("out of memory")]
     Memory,
 }
@@ -35,7 +35,7 @@ pub(crate) enum Stop {
     Bad,
     // The byte opens a list or members 65 deep.
     Deep,
-    // Memory is wanting.
+    // Out of memory.
     Memory,
 }
 

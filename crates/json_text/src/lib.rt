@@ -17,7 +17,7 @@ mod stack;
 mod tree;
 
 pub use fault::JsonFault;
-pub use laws::{one_fault, one_tree, tree_or_fault, tree_without_fault};
+pub use laws::{lists_within_text, one_fault, one_tree, tree_or_fault, tree_without_fault};
 pub use number::is_number;
 pub use reader::read;
 pub use tree::Tree;

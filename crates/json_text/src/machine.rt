@@ -5,7 +5,7 @@ ghost use Rattle.json_text.specs.Stacks.{opened_of};
 ghost use Rattle.json_text.specs.NumberSteps.{next_digit};
 ghost use Rattle.json_text.specs.CharacterSteps.{is_sound, take_byte};
 ghost use Rattle.json_text.specs.Modes.{is_sound_mode};
-ghost use Rattle.json_text.specs.Steps.{progress_of, nothing, step, finish, finished, Makes, Ends, KeepsBounds, at_start, go_on, go, between, bare_between, begin, begin_text, begin_number, enter, behind, close, end_value, word_value, in_word, in_number, end_number, in_text, end_text};
+ghost use Rattle.json_text.specs.Steps.{progress_of, nothing, step, finish, end_mode, Makes, Ends, KeepsBounds, at_start, go_on, go, between, bare_between, begin, begin_text, begin_number, enter, behind, close, end_value, word_value, in_word, in_number, end_number, in_text, end_text};
 
 use crate::Tree;
 use crate::character::{Part, Taken, take_byte};
@@ -83,7 +83,7 @@ impl Machine {
 
     // The end of a number that ends with the text.
     fn end_last(&mut self, alloc: Global) -> Result<(), Stop>
-        ensures { Makes result (Ok (finished self.old.mode (progress_of self.old))) (progress_of self.new) }
+        ensures { Makes result (Ok (end_mode self.old.mode (progress_of self.old))) (progress_of self.new) }
     {
         if let Mode::Number(digits) = self.mode {
             if is_whole(digits) {

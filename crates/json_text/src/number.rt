@@ -1,7 +1,7 @@
 // Numbers of JSON.
 ghost use Rattle.std.specs.Prelude.{◌≡◌, ◌≤◌, ◌<◌, ◌==◌, ◌↔◌, not, length, slice_index, position, if◌then◌else◌, drop, IfSome, IsTrue};
 ghost use Rattle.std.specs.Char.{is_ascii_digit};
-ghost use Rattle.json_text.specs.NumberTest.{run, unsigned, is_digits, is_power, is_fraction, is_rest, is_bare_number};
+ghost use Rattle.json_text.specs.NumberTest.{run, strip_sign, is_digits, is_power, is_fraction, is_rest, is_bare_number};
 ghost use Rattle.json_text.specs.Numbers.{IsJsonNumber};
 
 /// Whether the bytes are a number of JSON: an optional minus, digits without a needless zero in front, optionally a
@@ -55,14 +55,14 @@ fn is_power(text: &[u8]) -> bool
 {
     match text {
         [] => true,
-        [b'e' | b'E', rest @ ..] => is_digits(unsigned(rest)),
+        [b'e' | b'E', rest @ ..] => is_digits(strip_sign(rest)),
         _ => false,
     }
 }
 
 // The text behind a plus or a minus.
-fn unsigned(text: &[u8]) -> &[u8]
-    ensures { result.now ≡ unsigned text.now }
+fn strip_sign(text: &[u8]) -> &[u8]
+    ensures { result.now ≡ strip_sign text.now }
 {
     match text {
         [b'+' | b'-', rest @ ..] => rest,

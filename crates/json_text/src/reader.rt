@@ -8,6 +8,7 @@ ghost use Rattle.json_text.specs.Steps.{progress_of, nothing, run, reading, Give
 
 use crate::machine::Machine;
 use crate::{JsonFault, Tree};
+use agg_base::limits::TEXT_BYTES;
 use std::alloc::Global;
 
 /// The value that the bytes spell by the grammar of RFC 8259, with a byte order mark in front or none.
@@ -15,7 +16,7 @@ use std::alloc::Global;
 /// `Syntax` names how many of the bytes from the first on begin some text of JSON, where nesting is not limited. `TooDeep` comes before it
 /// where an opening bracket or brace among these bytes nests 65 deep, and names the place of the first one that does.
 pub fn read(alloc: Global, bytes: &[u8]) -> Result<Tree, JsonFault>
-    requires { length bytes.now ≤ 536870912 }
+    requires { length bytes.now ≤ TEXT_BYTES }
     ensures found { IfOk result (λ tree. IsTextOf bytes.now (json_of tree)) }
     ensures fault { IfErr result (λ fault. IsFaultOf bytes.now fault) }
     ensures spelled { (tree : Json) → IsTextOf bytes.now tree → Gives json_of result (Ok tree) }
@@ -27,7 +28,7 @@ pub fn read(alloc: Global, bytes: &[u8]) -> Result<Tree, JsonFault>
 // The same, by what each byte makes of what has come before it.
 #[tactic(auto, unfolding(crate::specs::Steps::reading))]
 fn read_all(alloc: Global, bytes: &[u8]) -> Result<Tree, JsonFault>
-    requires { length bytes.now ≤ 536870912 }
+    requires { length bytes.now ≤ TEXT_BYTES }
     ensures { Gives json_of result (reading bytes.now) }
 {
     let machine = run(alloc, bytes)?;
@@ -39,7 +40,7 @@ fn read_all(alloc: Global, bytes: &[u8]) -> Result<Tree, JsonFault>
 
 // What all bytes make of the reader's state.
 fn run(alloc: Global, bytes: &[u8]) -> Result<Machine, JsonFault>
-    requires { length bytes.now ≤ 536870912 }
+    requires { length bytes.now ≤ TEXT_BYTES }
     ensures { Gives progress_of result (run 64 0 bytes.now nothing) }
 {
     let mut machine = Machine::new(alloc);

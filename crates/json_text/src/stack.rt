@@ -1,7 +1,7 @@
 // The lists and members that are open.
 ghost use Rattle.std.specs.Prelude.{◌≡◌, [], ◌∷◌, length, drop, nat_le, OnOk, IfOk};
 ghost use Rattle.json_text.specs.Values.{json_of};
-ghost use Rattle.json_text.specs.Stacks.{stack_of, opened_of, is_list, is_members, has_list, has_members, stack_with, stack_named, with_value, with_name, closed, closed_first};
+ghost use Rattle.json_text.specs.Stacks.{stack_of, opened_of, is_list, is_members, has_list, has_members, stack_with, stack_named, with_value, with_name, tree_of, tree_of_first};
 
 use crate::Tree;
 use agg_base::{NoMemory, Text};
@@ -125,18 +125,18 @@ pub(crate) fn add_name(stack: &mut Stack, name: Text) -> Result<(), NoMemory>
 // Closes the innermost, which is a value then.
 #[tactic(auto, using(crate::proofs::StackLemmas::frames_push))]
 pub(crate) fn close(stack: &mut Stack) -> Tree
-    ensures value { json_of result ≡ closed_first (stack_of stack.old) }
+    ensures value { json_of result ≡ tree_of_first (stack_of stack.old) }
     ensures rest { stack_of stack.new ≡ drop 1 (stack_of stack.old) }
 {
     match stack.frames.pop() {
         None => Tree::Null,
-        Some(frame) => closed(frame),
+        Some(frame) => tree_of(frame),
     }
 }
 
 // The list or members as a value.
-fn closed(frame: Frame) -> Tree
-    ensures { json_of result ≡ closed (opened_of frame) }
+fn tree_of(frame: Frame) -> Tree
+    ensures { json_of result ≡ tree_of (opened_of frame) }
 {
     match frame {
         Frame::List(items) => Tree::List(items),

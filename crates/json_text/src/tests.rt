@@ -1,6 +1,7 @@
 // Worked values of each public call.
 use crate::{
-    JsonFault, Tree, is_number, one_fault, one_tree, read, tree_or_fault, tree_without_fault,
+    JsonFault, Tree, is_number, lists_within_text, one_fault, one_tree, read, tree_or_fault,
+    tree_without_fault,
 };
 use agg_base::Text;
 use std::process::Abort;
@@ -77,6 +78,7 @@ fn places_of_syntax(rt: HostRuntime) {
     one_fault();
     tree_without_fault();
     tree_or_fault();
+    lists_within_text();
 }
 
 #[test]

@@ -1,6 +1,7 @@
 -- The first byte of a kind.
-use Rattle.std.proofs.Common.{◌≡◌, ℕ, ◌+◌, ◌≤◌, nat_lt, Bool, true, false, not, cond, List, [], ◌∷◌, length, Some, None, refl, arith}
+use Rattle.std.proofs.Common.{◌≡◌, ℕ, ◌+◌, ◌≤◌, nat_lt, Bool, true, false, not, cond, List, [], ◌∷◌, length, Option, Some, None, sym, refl, arith}
 use Rattle.std.specs.List.{position, position_or_len}
+use Rattle.std.specs.Option.{unwrap_or}
 use Rattle.std.proofs.lemmas.Bool.{ltb-false}
 
 place_is : (n len i : ℕ) → cond (nat_lt n len) (Some n) None ≡ Some i → i ≡ n
@@ -14,7 +15,7 @@ no_place n len e =
       | false ↦ λ t is. ltb-false n len t
     ] refl e
 
-near : (p : ℕ → Bool) (text : List ℕ) → position_or_len p text ≤ length text
+pub near : (p : ℕ → Bool) (text : List ℕ) → position_or_len p text ≤ length text
 near p [] = omega arith
 near p (x ∷ text) =
     let more = near p text in
@@ -27,3 +28,8 @@ first_at p text at e = place_is _ _ at e
 -- where there is none
 pub none_at : (p : ℕ → Bool) (text : List ℕ) → position p text ≡ None → length text ≡ position_or_len p text
 none_at p text e = let far = no_place _ (length text) e in let close = near p text in omega arith
+
+-- the first such byte, or the end where there is none
+pub place_or : (p : ℕ → Bool) (text : List ℕ) (o : Option ℕ) → o ≡ position p text → unwrap_or o (length text) ≡ position_or_len p text
+place_or p text (Some at) e = first_at p text at (sym e)
+place_or p text None e = none_at p text (sym e)

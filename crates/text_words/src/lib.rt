@@ -2,6 +2,7 @@
 #![tactic(auto)]
 
 mod byte;
+mod cut;
 mod parts;
 
 pub use byte::{has_digits_only, is_blank};

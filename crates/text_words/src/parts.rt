@@ -1,85 +1,104 @@
-// The words of a line.
+// The words of a line, one by one.
 use std::marker::Model;
 
-/// The words of a line, in order, which contracts see as a list of texts.
+/// The words of a line that are left, in order, which contracts see as a list of texts. Going on takes no memory.
 #[derive(Drop)]
 pub struct Parts<'a> {
-    words: Vec<&'a [u8]>,
+    rest: &'a [u8],
+    // Whether carriage returns part words too.
+    returns: bool,
 }
 
 impl<'a> Model for Parts<'a> {
     ghost use Rattle.std.specs.Prelude.{List, ℕ};
-    ghost use Rattle.text_words.specs.Words.{texts};
+    ghost use Rattle.text_words.specs.Words.{words_between, is_parting};
 
     ghost Value = { List (List ℕ) };
 
-    ghost view = { λ parts. texts parts.words.items };
+    ghost view = { λ parts. words_between (is_parting parts.returns) parts.rest.now };
 }
 
-ghost use Rattle.std.specs.Prelude.{◌≡◌, ◌<◌, length, IfOk};
+ghost use Rattle.std.specs.Prelude.{◌≡◌, ◌≤◌, ◌==◌, ◌<◌, length, drop};
 ghost use Rattle.std.specs.Str.{bytes_eq};
-ghost use Rattle.text_words.specs.Words.{texts, words, gap_words, word};
+ghost use Rattle.text_words.specs.Words.{words, gap_words, word};
 
-use agg_base::NoMemory;
-use std::alloc::{AllocError, Global};
+use crate::cut::{behind_words, count_words, first_word, word_at};
 
 impl<'a> Parts<'a> {
     /// The words of a line: what stands between spaces and tabs.
-    pub fn of(alloc: Global, line: &'a [u8]) -> Result<Parts<'a>, NoMemory>
-        ensures { IfOk result (λ parts. parts ≡ words line.now) }
+    #[tactic(auto, unfolding(crate::specs::Words::words))]
+    pub fn of(line: &'a [u8]) -> Parts<'a>
+        ensures { result ≡ words line.now }
     {
-        Ok(Parts {
-            words: collected(alloc, line)?,
-        })
+        Parts {
+            rest: line,
+            returns: false,
+        }
     }
 
     /// The words of a line in which carriage returns part words too.
-    pub fn between_gaps(alloc: Global, line: &'a [u8]) -> Result<Parts<'a>, NoMemory>
-        ensures { IfOk result (λ parts. parts ≡ gap_words line.now) }
+    #[tactic(auto, unfolding(crate::specs::Words::gap_words))]
+    pub fn between_gaps(line: &'a [u8]) -> Parts<'a>
+        ensures { result ≡ gap_words line.now }
     {
-        Ok(Parts {
-            words: collected_between_gaps(alloc, line)?,
-        })
+        Parts {
+            rest: line,
+            returns: true,
+        }
     }
 
-    /// How many words there are. It takes no memory.
-    pub fn count(&self) -> usize
+    /// The words behind the first ones, as many as that.
+    pub fn behind(&self, count: usize) -> Parts<'a>
+        ensures { result ≡ drop count self.now }
+    {
+        Parts {
+            rest: behind_words(self.returns, self.rest, count),
+            returns: self.returns,
+        }
+    }
+
+    /// How many words are left. It goes over all of them.
+    pub fn len(&self) -> usize
         ensures { result ≡ length self.now }
     {
-        self.words.len()
+        count_words(self.returns, self.rest)
     }
 
-    /// The word at a place; the first stands at place 0. It takes no memory.
+    /// Whether no word is left.
+    pub fn is_empty(&self) -> bool
+        ensures { result ≡ (length self.now == 0) }
+    {
+        first_word(self.returns, self.rest).is_none()
+    }
+
+    /// The word at a place among those that are left, of which the first stands at place 0, and nothing behind the last. It goes over those
+    /// before it.
     pub fn at(&self, at: usize) -> &'a [u8]
-        requires { at < length self.now }
         ensures { result.now ≡ word self.now at }
     {
-        self.words[at]
+        word_at(self.returns, self.rest, at)
     }
 
-    /// Whether this word stands at a place. It takes no memory.
+    /// Whether this word stands at a place.
     pub fn has(&self, at: usize, text: &[u8]) -> bool
-        requires { at < length self.now }
         ensures { result ≡ bytes_eq (word self.now at) text.now }
     {
         self.at(at) == text
     }
 }
 
-// The words of a line, as slices.
-fn collected(alloc: Global, line: &[u8]) -> Result<Vec<&[u8]>, AllocError>
-    ensures { IfOk result (λ parts. texts parts.items ≡ words line.now) }
-{
-    line.split(|byte| *byte == b' ' || *byte == b'\t')
-        .filter(|part| !part.is_empty())
-        .collect(alloc)
-}
+impl<'a> Iterator for Parts<'a> {
+    ghost use Rattle.std.specs.Iterator.{YieldsFirstBy, item_count};
 
-// The same where carriage returns part words too.
-fn collected_between_gaps(alloc: Global, line: &[u8]) -> Result<Vec<&[u8]>, AllocError>
-    ensures { IfOk result (λ parts. texts parts.items ≡ gap_words line.now) }
-{
-    line.split(|byte| *byte == b' ' || *byte == b'\t' || *byte == b'\r')
-        .filter(|part| !part.is_empty())
-        .collect(alloc)
+    type Item = &'a [u8];
+
+    ghost next_gives = { YieldsFirstBy (λ word. word.now) (λ parts. parts) };
+
+    ghost remaining = { item_count (λ parts. parts) };
+
+    fn next(&mut self) -> Option<&'a [u8]> {
+        let (word, rest) = first_word(self.returns, self.rest)?;
+        self.rest = rest;
+        Some(word)
+    }
 }

@@ -3,7 +3,7 @@
 
 mod divide;
 
-pub use divide::{divided, gcd};
+pub use divide::{gcd, quotient};
 
 #[cfg(test)]
 mod tests {

@@ -1,16 +1,16 @@
-use Rattle.std.proofs.Common.{◌<◌, arith, length}
+use Rattle.std.proofs.Common.{◌≡◌, ◌<◌, ℕ, arith, length, ap}
 use Rattle.std.proofs.lemmas.Int.{ints}
-use Rattle.whole_ring.specs.Sums.{when}
-use Rattle.agg_model.specs.Plan.{length_of, crosses}
-use Rattle.whole_ring.proofs.Sums.{sum_below-more}
-use Rattle.agg_model.proofs.CostLemmas.{length_at_most, sums_are_small}
+use Rattle.whole_ring.specs.Sums.{sum_below, when}
+use Rattle.agg_model.specs.Problem.{areas, weight_of, length_of, is_between_regions}
+use Rattle.whole_ring.proofs.Sums.{sum_below-more, sum_below-nonnegative}
+use Rattle.agg_model.proofs.CostLemmas.{length_at_most, weights_nonnegative, sums_are_small}
 use Rattle.agg_model.proofs.costs.borders.Goals as goal
 
 pub overflow_add-sum : goal.overflow_add-sum
 overflow_add-sum c =
-    let all = (sums_are_small c.args.problem.now c.rules.ensures).lengths in
+    let all = (sums_are_small c.args.problem.now c.link_count-link-end.ensures.rules).lengths in
     let lt : c.loop-link.link < length c.args.problem.now.links = omega arith in
-    let here = length_at_most c.args.problem.now c.rules.ensures c.loop-link.link lt in
+    let here = length_at_most c.args.problem.now c.link_count-link-end.ensures.rules c.loop-link.link lt in
     let low = c.across-sum.ensures.least in
     let high = c.across-sum.ensures.most in
     let sum_low = c.loop-link.invariant.1 in
@@ -19,11 +19,11 @@ overflow_add-sum c =
 
 pub loop-link-preserved : goal.loop-link-preserved
 loop-link-preserved c =
-    let all = (sums_are_small c.args.problem.now c.rules.ensures).lengths in
+    let all = (sums_are_small c.args.problem.now c.link_count-link-end.ensures.rules).lengths in
     let lt : c.loop-link.link < length c.args.problem.now.links = omega arith in
-    let here = length_at_most c.args.problem.now c.rules.ensures c.loop-link.link lt in
+    let here = length_at_most c.args.problem.now c.link_count-link-end.ensures.rules c.loop-link.link lt in
     let weights = sum_below-more c.loop-link.link (length_of c.args.problem.now) in
-    let costs = sum_below-more c.loop-link.link (λ l. when (crosses c.args.problem.now c.args.grouping.now l) (length_of c.args.problem.now l)) in
+    let costs = sum_below-more c.loop-link.link (λ l. when (is_between_regions c.args.problem.now c.args.grouping.now l) (length_of c.args.problem.now l)) in
     let value = c.across-sum.ensures.value in
     let low = c.across-sum.ensures.least in
     let high = c.across-sum.ensures.most in
@@ -31,3 +31,13 @@ loop-link-preserved c =
     let sum_low = c.loop-link.invariant.1 in
     let sum_high = c.loop-link.invariant.2 in
     (omega (arith, ints), omega (arith, ints), omega (arith, ints))
+
+pub returns-clause-most : goal.returns-clause-most
+returns-clause-most c =
+    let p = c.args.problem.now in
+    let weights = sum_below-nonnegative (areas p) (weight_of p) (weights_nonnegative p c.link_count-link-end.ensures.rules) in
+    let whole = c.link_count-link-end.ensures.rules.small in
+    let all : c.loop-link.link ≡ length p.links = omega arith in
+    let same = ap (λ (n : ℕ). sum_below n (length_of p)) all in
+    let high = c.loop-link.invariant.2 in
+    omega (arith, ints)

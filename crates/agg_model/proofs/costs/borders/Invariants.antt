@@ -1,7 +1,7 @@
 use Rattle.std.proofs.Common.{◌≡◌}
 use Rattle.std.specs.Prelude.{pos, ◌≤ℤ◌}
 use Rattle.whole_ring.specs.Sums.{sum_below}
-use Rattle.agg_model.specs.Plan.{length_of, border_below}
+use Rattle.agg_model.specs.Problem.{length_of, border_below}
 use Rattle.agg_model.proofs.costs.borders.Given as goal
 
 abbrev pub invariant-loop-link : goal.invariant-loop-link

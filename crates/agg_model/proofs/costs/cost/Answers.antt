@@ -2,8 +2,8 @@ use Rattle.std.proofs.Common.{rules, ◌*ℤ◌, ◌+ℤ◌, pos, ap, arith, ◌
 use Rattle.std.proofs.lemmas.Int.{ints}
 use Rattle.std.specs.Prelude.{FitsSigned}
 use Rattle.std.specs.Int.{w128}
-use Rattle.agg_model.specs.Plan.{cost, areas, recolouring_below, border_below}
-use Rattle.agg_model.proofs.CostLemmas.{sum_read, sums_are_small}
+use Rattle.agg_model.specs.Problem.{cost, areas, recolouring_below, border_below}
+use Rattle.agg_model.proofs.CostLemmas.{sum_read}
 use Rattle.agg_model.proofs.costs.cost.Goals as goal
 
 pub returns : goal.returns
@@ -11,9 +11,6 @@ unfolding cost
 returns c =
     let p = c.args.problem.now in
     let g = c.args.grouping.now in
-    let small = sums_are_small p c.rules.ensures in
-    let weights = small.weights in
-    let lengths = small.lengths in
     let rec = recolouring_below p g (areas p) in
     let bor = border_below p g (length p.links) in
     let f : FitsSigned w128 c.recolouring.result = search rules in

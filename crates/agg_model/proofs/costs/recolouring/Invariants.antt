@@ -1,7 +1,7 @@
 use Rattle.std.proofs.Common.{◌≡◌}
 use Rattle.std.specs.Prelude.{pos, ◌*ℤ◌, ◌≤ℤ◌}
 use Rattle.whole_ring.specs.Sums.{sum_below}
-use Rattle.agg_model.specs.Plan.{weight_of, recolouring_below}
+use Rattle.agg_model.specs.Problem.{weight_of, recolouring_below}
 use Rattle.agg_model.proofs.costs.recolouring.Given as goal
 
 abbrev pub invariant-loop-area : goal.invariant-loop-area

@@ -1,5 +1,5 @@
 use Rattle.std.proofs.Common.{List, ℕ}
-use Rattle.agg_model.specs.Plan.{areas}
+use Rattle.agg_model.specs.Problem.{areas}
 use Rattle.greedy_start.specs.Tallies.{AreTallies, AreBest}
 use Rattle.greedy_start.proofs.BestSteps.{AreImproved}
 use Rattle.greedy_start.proofs.choices.improve.Given as goal

@@ -6,8 +6,8 @@ use Rattle.greedy_start.specs.Tallies.{IsLight, tally_at}
 use Rattle.greedy_start.proofs.TallySteps.{IsCounted, tally_light, tallies_more}
 use Rattle.greedy_start.proofs.choices.tallies.Goals as goal
 
-pub counted-requires-clause-light : goal.counted-requires-clause-light
-counted-requires-clause-light c =
+pub tally_with-requires-clause-light : goal.tally_with-requires-clause-light
+tally_with-requires-clause-light c =
     let p = c.args.problem.now in
     let parts = c.args.parts.now in
     let part : ℕ = slice_index parts c.loop-area.area in
@@ -15,7 +15,7 @@ counted-requires-clause-light c =
     let read : c.index.result.now ≡ tally_at c.loop-area.tallies.items part =
     get_or_read c.loop-area.tallies.items _ _ (omega (arith, c.loop-area.invariant.one_each)) c.index.ensures (record { owned = false; weight = pos 0; recolouring = pos 0 }) in
     subst (λ (t : Tally). IsLight p c.loop-area.area t) (sym read)
-    (tally_light p (λ v. slice_index parts v) c.args.class part c.loop-area.area _ c.rules.ensures c.requires.class (omega arith) (c.loop-area.invariant.at part within))
+    (tally_light p (λ v. slice_index parts v) c.args.class part c.loop-area.area _ c.areas-area-end.ensures.rules c.requires.class (omega arith) (c.loop-area.invariant.at part within))
 
 pub loop-area-preserved : goal.loop-area-preserved
 loop-area-preserved c =
@@ -25,7 +25,7 @@ loop-area-preserved c =
     let within : part < length parts = c.requires.parts c.loop-area.area (omega arith) in
     let read : c.index.result.now ≡ tally_at c.loop-area.tallies.items part =
     get_or_read c.loop-area.tallies.items _ _ (omega (arith, c.loop-area.invariant.one_each)) c.index.ensures (record { owned = false; weight = pos 0; recolouring = pos 0 }) in
-    let step : IsCounted p c.loop-area.area c.args.class c.index.result.now c.counted.result =
-    record { owned = c.counted.ensures.owned; weight = c.counted.ensures.weight; recolouring = c.counted.ensures.recolouring } in
-    tallies_more p parts c.args.class c.loop-area.area c.loop-area.tallies.items c.counted.result (omega arith) within c.loop-area.invariant
-    (subst (λ (t : Tally). IsCounted p c.loop-area.area c.args.class t c.counted.result) read step)
+    let step : IsCounted p c.loop-area.area c.args.class c.index.result.now c.tally_with.result =
+    record { owned = c.tally_with.ensures.owned; weight = c.tally_with.ensures.weight; recolouring = c.tally_with.ensures.recolouring } in
+    tallies_more p parts c.args.class c.loop-area.area c.loop-area.tallies.items c.tally_with.result (omega arith) within c.loop-area.invariant
+    (subst (λ (t : Tally). IsCounted p c.loop-area.area c.args.class t c.tally_with.result) read step)

@@ -1,7 +1,7 @@
 use Rattle.std.proofs.Common.{◌≡◌, ℕ, ◌<◌, ◌≤◌, List, length, arith, slice_index, subst, sym, Err}
 use Rattle.std.specs.Prelude.{Option}
 use Rattle.std.proofs.lemmas.Result.{IfOk-weaker}
-use Rattle.agg_model.specs.Plan.{Groups, IsFeasible, areas}
+use Rattle.agg_model.specs.Problem.{Grouping, IsFeasible, areas}
 use Rattle.greedy_start.specs.declared.choices.Best.{Best}
 use Rattle.greedy_start.specs.declared.starts.StartFault.TheVariants.{Hopeless}
 use Rattle.greedy_start.specs.Starts.{IsNumberedByLeast, IsOneRegionEach, IsFirstHopeless}
@@ -28,17 +28,17 @@ done : (c : goal.After-drop-parts-2) → IsDone c.args.problem.now c.in_ok-parts
 done c =
     let p = c.args.problem.now in
     record {
-      rules = c.rules.ensures;
+      rules = c.areas.ensures.rules;
       one_each = c.in_ok-parts.ensures.length;
       are_parts = c.in_ok-parts.ensures.parts;
       are_best = subst (λ (ps : List ℕ). AreBest p ps p.classes c.in_ok-best.best.items) c.deref.ensures.value c.in_ok-best.ensures;
     }
 
-started : (c : goal.After-drop-parts-2) (g : Groups) → IsStart c.deref-2.result.now c.deref-3.result.now (length c.deref-2.result.now) g → IsStart c.in_ok-parts.parts.items c.in_ok-best.best.items (areas c.args.problem.now) g
+started : (c : goal.After-drop-parts-2) (g : Grouping) → IsStart c.deref-2.result.now c.deref-3.result.now (length c.deref-2.result.now) g → IsStart c.in_ok-parts.parts.items c.in_ok-best.best.items (areas c.args.problem.now) g
 started c g start =
     plain _ _ _ _ _ g c.deref-2.ensures.value c.deref-3.ensures.value c.in_ok-parts.ensures.length start
   where
-    plain : (ps parts : List ℕ) (bs best : List (Option Best)) (n : ℕ) (g : Groups) → ps ≡ parts → bs ≡ best → length parts ≡ n → IsStart ps bs (length ps) g → IsStart parts best n g
+    plain : (ps parts : List ℕ) (bs best : List (Option Best)) (n : ℕ) (g : Grouping) → ps ≡ parts → bs ≡ best → length parts ≡ n → IsStart ps bs (length ps) g → IsStart parts best n g
     plain ps parts bs best n g e f count start =
         subst (λ (m : ℕ). IsStart parts best m g) count
         (subst (λ (xs : List ℕ). IsStart xs best (length xs) g) e (subst (λ (xs : List (Option Best)). IsStart ps xs (length ps) g) f start))
@@ -69,4 +69,4 @@ returns-clause-hopeless c v e = first c v e
 pub returns-clause-none : goal.returns-clause-none
 returns-clause-none c v e g feasible =
     let at = first c v e in
-    hopeless_law c.args.problem.now at.part c.rules.ensures at.are_parts v at.within at.hopeless g feasible
+    hopeless_law c.args.problem.now at.part c.areas.ensures.rules at.are_parts v at.within at.hopeless g feasible

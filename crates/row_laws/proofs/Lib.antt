@@ -1,0 +1,9 @@
+pub mod Tests
+pub mod SumLemmas
+pub mod RowLemmas
+pub mod WidthLemmas
+pub mod SumLawLemmas
+pub mod TreeLemmas
+pub mod ComponentLemmas
+pub mod FixedLemmas
+pub mod FloorLemmas

@@ -1,0 +1,25 @@
+-- The laws that this crate proves.
+use Rattle.std.specs.Prelude.{◌≡◌, ℤ, pos, ◌≤ℤ◌, Result, Ok}
+use Rattle.agg_model.specs.Problem.{Problem, Grouping, IsProblem, IsFeasible, areas}
+use Rattle.row_laws.specs.declared.row.Row.{Row}
+use Rattle.row_laws.specs.declared.bound.Bound.{Bound}
+use Rattle.row_laws.specs.Rows.{row_at, IsInForm}
+use Rattle.row_laws.specs.Values.{RowSum, Allowed, IsSoundSum}
+use Rattle.row_laws.specs.Bounds.{HoldsInside}
+use Rattle.row_laws.specs.Exact.{answer}
+use Rattle.row_laws.specs.Fixed.{AreSingle, fixed_value, kind_in}
+
+-- every feasible grouping keeps every row that is in form
+abbrev pub RowLaw : Type 0
+RowLaw =
+    (p : Problem) (g : Grouping) (row : Row) → IsProblem p → IsFeasible p g → IsInForm p row → pos 0 ≤ℤ row_at p g row
+
+-- the value of a sound sum of rows holds
+abbrev pub SumLaw : Type 0
+SumLaw =
+    (p : Problem) (allowed : Allowed) (s : RowSum) (b : Bound) → IsProblem p → IsSoundSum p s → answer p allowed s ≡ Ok b → HoldsInside p allowed b
+
+-- the value of single classes holds
+abbrev pub FixedLaw : Type 0
+FixedLaw =
+    (p : Problem) (allowed : Allowed) → IsProblem p → AreSingle p allowed (areas p) → HoldsInside p allowed (fixed_value p (kind_in p allowed))
