@@ -8,7 +8,7 @@ use Rattle.std.proofs.lemmas.Bool.{ltb-false, ltb-true}
 use Rattle.std.proofs.lemmas.List.{get_or-drop, get_or_default, length-drop}
 use Rattle.std.proofs.lemmas.List.Quantifiers.{position-Some}
 use Rattle.shelf_io.proofs.HeldLemmas.{Held, no_place}
-use Rattle.shelf_io.specs.Held.{NamesDiffer}
+use Rattle.shelf_io.specs.Held.{AreNamesDistinct}
 
 -- each file below the place differs by name from each later one
 abbrev pub DifferBelow : ℕ → Held → Type 0
@@ -52,7 +52,7 @@ differ_more held at name file None below here is named at_place none i j d small
     ] refl
 
 pub not_different : (held : Held) (at : ℕ) (name : List ℕ) (file : List ℕ × Vec ℕ Global) (found : Option ℕ) → at < length held → file ≡ get_or held at file → name ≡ file.0
-    → found ≡ position (λ f. bytes_eq f.0 name) (drop (at + 1) held) → is_some found ≡ true → NamesDiffer held → ⊥
+    → found ≡ position (λ f. bytes_eq f.0 name) (drop (at + 1) held) → is_some found ≡ true → AreNamesDistinct held → ⊥
 not_different held at name file None here is named at_place some differ = absurd (cc)
 not_different held at name file (Some place) here is named at_place some differ =
     let there = position-Some (λ f. bytes_eq f.0 name) (drop (at + 1) held) place file (sym at_place) in

@@ -14,5 +14,5 @@ abbrev pub files_of : List (List ℕ × Vec ℕ Global) → Files
 files_of held = from_entries (map entry held)
 
 -- no two files have one name
-abbrev pub NamesDiffer : List (List ℕ × Vec ℕ Global) → Type 0
-NamesDiffer held = AllPairs (λ first second. ¬ (first.0 ≡ second.0)) held
+abbrev pub AreNamesDistinct : List (List ℕ × Vec ℕ Global) → Type 0
+AreNamesDistinct held = AllPairs (λ first second. ¬ (first.0 ≡ second.0)) held

@@ -1,5 +1,7 @@
 // The real files and the standard output. Nothing is told of what they hold.
-ghost use Rattle.std.specs.Prelude.{◌≡◌, ◌≤◌, ◌+◌, length, [], None, string_bytes, IfOk, IfSome};
+ghost use Rattle.std.specs.Prelude.{◌≡◌, ◌≤◌, ◌<◌, ◌+◌, length, [], None, string_bytes, IfOk, IfSome, IfNone, OnOk};
+ghost use Rattle.std.specs.Io.KnownBytes.{Appends, Consumes, IsAtEnd};
+ghost use Rattle.shelf_io.specs.State.{first_state};
 
 use crate::{Fetch, Put, Shelf};
 use std::alloc::Global;
@@ -11,7 +13,7 @@ const CHUNK: usize = 4096;
 
 /// The real files and the standard output.
 ///
-/// It tells nothing of what they hold. An error whose kind is want of memory is answered as `Memory` and is not counted.
+/// It tells nothing of what they hold. An error whose kind is out of memory is answered as `Memory` and is not counted.
 /// Each other error of fetching raises the one count, and each other error of storing and saying the other.
 #[derive(Drop)]
 pub struct DiskShelf<R: Files + Print + Drop> {
@@ -25,9 +27,7 @@ pub struct DiskShelf<R: Files + Print + Drop> {
 impl<R: Files + Print + Drop> DiskShelf<R> {
     /// A shelf over the real files and the standard output. No fault is counted yet and no name is missed.
     pub fn new(rt: R, alloc: Global) -> DiskShelf<R>
-        ensures fetch_faults { ⟦<DiskShelf<R> as Shelf>⟧.fetch_faults result ≡ 0 }
-        ensures put_faults { ⟦<DiskShelf<R> as Shelf>⟧.put_faults result ≡ 0 }
-        ensures missed { ⟦<DiskShelf<R> as Shelf>⟧.missed result ≡ [] }
+        ensures { ⟦<DiskShelf<R> as Shelf>⟧.state result ≡ first_state None None }
     {
         DiskShelf {
             rt,
@@ -40,8 +40,15 @@ impl<R: Files + Print + Drop> DiskShelf<R> {
 }
 
 // All that a reader has left, or nothing where it is more than the limit.
-fn read_up_to<R: Read>(alloc: Global, reader: &mut R, limit: usize) -> io::Result<Option<Vec<u8>>>
-    ensures { IfOk result (λ found. IfSome found (λ bytes. length bytes.items ≤ limit)) }
+pub(crate) fn read_up_to<R: Read>(
+    alloc: Global,
+    reader: &mut R,
+    limit: usize,
+) -> io::Result<Option<Vec<u8>>>
+    ensures bound { IfOk result (λ found. IfSome found (λ bytes. length bytes.items ≤ limit)) }
+    ensures whole { IfOk result (λ found. IfSome found (λ bytes. Consumes (R.remaining reader.old) (R.remaining reader.new) bytes.items)) }
+    ensures end { IfOk result (λ found. IfSome found (λ _. IsAtEnd (R.remaining reader.new))) }
+    ensures over { IfOk result (λ found. IfNone found (IfSome (R.remaining reader.old) (λ left. limit < length left))) }
 {
     let mut bytes = Vec::new(alloc);
     let mut chunk = [0u8; CHUNK];
@@ -59,7 +66,9 @@ fn read_up_to<R: Read>(alloc: Global, reader: &mut R, limit: usize) -> io::Resul
 }
 
 // All the bytes. A write that takes nothing is a fault.
-fn write_whole<W: Write>(writer: &mut W, bytes: &[u8]) -> io::Result<()> {
+pub(crate) fn write_whole<W: Write>(writer: &mut W, bytes: &[u8]) -> io::Result<()>
+    ensures { OnOk result (Appends (W.contents writer.old) (W.contents writer.new) bytes.now) }
+{
     let mut rest = bytes;
     while !rest.is_empty() {
         let count = writer.write(rest)?;
@@ -89,15 +98,13 @@ fn write_file<R: Files>(rt: &R, name: &str, bytes: &[u8]) -> io::Result<()> {
 }
 
 impl<R: Files + Print + Drop> Shelf for DiskShelf<R> {
-    ghost files = { λ s. None };
-
-    ghost said = { λ s. None };
-
-    ghost fetch_faults = { λ s. s.fetch_faults };
-
-    ghost put_faults = { λ s. s.put_faults };
-
-    ghost missed = { λ s. string_bytes s.missed };
+    ghost state = { λ s. record {
+      files = None;
+      said = None;
+      fetch_faults = s.fetch_faults;
+      put_faults = s.put_faults;
+      missed = string_bytes s.missed;
+    } };
 
     fn fetch(&mut self, alloc: Global, name: &str, limit: usize) -> Result<Vec<u8>, Fetch> {
         let Ok(copied) = String::from_str(self.alloc, name) else {

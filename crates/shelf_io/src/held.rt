@@ -1,5 +1,5 @@
-// A list of files, each with its name.
-ghost use Rattle.std.specs.Prelude.{◌≡◌, None, Some, OnOk, OnErr, MatchOption, position};
+// A list of files, each with its name, and what was said.
+ghost use Rattle.std.specs.Prelude.{◌≡◌, ◌++◌, None, Some, OnOk, OnErr, MatchOption, position};
 ghost use Rattle.std.specs.Str.{bytes_eq};
 ghost use Rattle.std.specs.FinMap.{get, insert};
 ghost use Rattle.shelf_io.specs.Held.{files_of};
@@ -43,5 +43,14 @@ pub(crate) fn put_file(
         Some(at) => files[at] = (key, text),
         None => files.push((key, text))?,
     }
+    Ok(())
+}
+
+// Appends the bytes to what was said.
+pub(crate) fn append(said: &mut Vec<u8>, bytes: &[u8]) -> Result<(), NoMemory>
+    ensures ok { OnOk result (said.new.items ≡ said.old.items ++ bytes.now) }
+    ensures err { OnErr result (said.new.items ≡ said.old.items) }
+{
+    said.extend_from_slice(bytes)?;
     Ok(())
 }

@@ -10,7 +10,7 @@ mod sure;
 
 pub use disk::DiskShelf;
 pub use memory::MemShelf;
-pub use names::names_differ;
+pub use names::are_names_distinct;
 pub use shelf::{Fetch, Put, Shelf};
 pub use sure::{SureShelf, sure_law};
 

@@ -1,9 +1,11 @@
 // Files in memory, and calls that fail by a list.
-ghost use Rattle.std.specs.Prelude.{◌≡◌, List, ℕ, [], Option, None, Some, string_bytes, IfSome, MatchOption};
+ghost use Rattle.std.specs.Prelude.{◌≡◌, ◌↔◌, ◌+◌, ◌-◌, ◌^◌, min, [], None, Some, Contains, string_bytes, IsTrue, IfSome, MatchOption};
 ghost use Rattle.std.specs.FinMap.{get};
-ghost use Rattle.shelf_io.specs.Held.{files_of, NamesDiffer};
+ghost use Rattle.shelf_io.specs.State.{first_state};
+ghost use Rattle.shelf_io.specs.Memory.{calls_of, half_of};
+ghost use Rattle.shelf_io.specs.Held.{files_of, AreNamesDistinct};
 
-use crate::held::{file_of, put_file};
+use crate::held::{append, file_of, put_file};
 use crate::{Fetch, Put, Shelf};
 use agg_base::Text;
 use std::alloc::Global;
@@ -25,22 +27,30 @@ pub struct MemShelf {
     missed: String,
 }
 
-// Counts a call, and tells whether it fails.
-fn fails(failing: &[u64], calls: &mut u64) -> bool {
+// Whether the call that now begins fails. It is counted.
+fn is_failing(failing: &[u64], calls: &mut u64) -> bool
+    ensures answer { IsTrue result ↔ Contains failing.now calls.old }
+    ensures one_more { calls.new ≡ min (calls.old + 1) (2 ^ 64 - 1) }
+{
     let now = *calls;
     *calls = now.saturating_add(1);
     failing.contains(&now)
 }
 
+// The first half of the bytes, rounded down.
+fn half_of(bytes: &[u8]) -> &[u8]
+    ensures { result.now ≡ half_of bytes.now }
+{
+    &bytes[..bytes.len() / 2]
+}
+
 impl MemShelf {
-    /// A shelf of these files, whose names differ. Nothing is said yet, no fault is counted and no name is missed.
+    /// A shelf of these files, whose names differ. Nothing is said yet, no call is made, no fault is counted and no name
+    /// is missed.
     pub fn new(alloc: Global, files: Vec<(Text, Vec<u8>)>, failing: Vec<u64>) -> MemShelf
-        requires { NamesDiffer files.items }
-        ensures files { ⟦<MemShelf as Shelf>⟧.files result ≡ Some (files_of files.items) }
-        ensures said { ⟦<MemShelf as Shelf>⟧.said result ≡ Some [] }
-        ensures fetch_faults { ⟦<MemShelf as Shelf>⟧.fetch_faults result ≡ 0 }
-        ensures put_faults { ⟦<MemShelf as Shelf>⟧.put_faults result ≡ 0 }
-        ensures missed { ⟦<MemShelf as Shelf>⟧.missed result ≡ [] }
+        requires { AreNamesDistinct files.items }
+        ensures state { ⟦<MemShelf as Shelf>⟧.state result ≡ first_state (Some (files_of files.items)) (Some []) }
+        ensures calls { calls_of result ≡ record { made = 0; failing = failing.items } }
     {
         MemShelf {
             alloc,
@@ -56,7 +66,7 @@ impl MemShelf {
 
     /// The bytes of the file of that name, and `None` where it is missing. It takes no memory.
     pub fn file(&self, name: &str) -> Option<&[u8]>
-        ensures { IfSome (⟦<MemShelf as Shelf>⟧.files self.now) (λ m.
+        ensures { IfSome (⟦<MemShelf as Shelf>⟧.state self.now).files (λ m.
             MatchOption result (get m name.now ≡ None) (λ bytes. get m name.now ≡ Some bytes.now)) }
     {
         file_of(&self.files, name)
@@ -64,33 +74,42 @@ impl MemShelf {
 
     /// What was said. It takes no memory.
     pub fn said(&self) -> &[u8]
-        ensures { ⟦<MemShelf as Shelf>⟧.said self.now ≡ Some result.now }
+        ensures { (⟦<MemShelf as Shelf>⟧.state self.now).said ≡ Some result.now }
     {
         &self.said
     }
 
     /// The faults of fetching and of putting. It takes no memory.
     pub fn faults(&self) -> (u64, u64)
-        ensures fetches { result.0 ≡ ⟦<MemShelf as Shelf>⟧.fetch_faults self.now }
-        ensures puts { result.1 ≡ ⟦<MemShelf as Shelf>⟧.put_faults self.now }
+        ensures fetches { result.0 ≡ (⟦<MemShelf as Shelf>⟧.state self.now).fetch_faults }
+        ensures puts { result.1 ≡ (⟦<MemShelf as Shelf>⟧.state self.now).put_faults }
     {
         (self.fetch_faults, self.put_faults)
     }
 }
 
 impl Shelf for MemShelf {
-    ghost files = { λ s. Some (files_of s.files.items) };
+    ghost use Rattle.std.specs.Prelude.{◌≡◌, ◌≤◌, ◌<◌, ◌⊎◌, length, IfOk, IfSome, OnErr, IsErrOf};
+    ghost use Rattle.shelf_io.specs.Files.{text_at, with_file, with_said, IsMissing, IsPartlyStored, IsPartlySpoken};
+    ghost use Rattle.shelf_io.specs.State.{after_fetch, after_store, after_say};
+    ghost use Rattle.shelf_io.specs.Causes.{HasFetchCause, HasPutCause};
+    ghost use Rattle.shelf_io.specs.Memory.{state_of, calls_of, after_call, half_of, IsFailing, IsFetchFault, IsPutFault};
 
-    ghost said = { λ s. Some s.said.items };
+    ghost state = { λ s. state_of s };
 
-    ghost fetch_faults = { λ s. s.fetch_faults };
-
-    ghost put_faults = { λ s. s.put_faults };
-
-    ghost missed = { λ s. string_bytes s.missed };
-
-    fn fetch(&mut self, alloc: Global, name: &str, limit: usize) -> Result<Vec<u8>, Fetch> {
-        let failing = fails(&self.failing, &mut self.calls);
+    /// As the trait says. It fails exactly where the call's number is in the list or the file is missing.
+    fn fetch(&mut self, alloc: Global, name: &str, limit: usize) -> Result<Vec<u8>, Fetch>
+        ensures bytes { IfOk result (λ bytes. IfSome (state_of self.old).files (λ m. bytes.items ≡ text_at m name.now)) }
+        ensures bound { IfOk result (λ bytes. length bytes.items ≤ limit) }
+        ensures too_long { IsErrOf result Fetch.TooLong → IfSome (state_of self.old).files (λ m. limit < length (text_at m name.now)) }
+        ensures cause { HasFetchCause (state_of self.old).fetch_faults (state_of self.new).fetch_faults result }
+        ensures state { state_of self.new ≡ after_fetch (state_of self.old) (state_of self.new).fetch_faults name.now result }
+        ensures calls { calls_of self.new ≡ after_call (calls_of self.old) }
+        ensures failing { IsFailing (calls_of self.old) → IsFetchFault result }
+        ensures missing { IsMissing (state_of self.old).files name.now → IsFetchFault result }
+        ensures failed { IsErrOf result Fetch.Failed → IsFailing (calls_of self.old) ⊎ IsMissing (state_of self.old).files name.now }
+    {
+        let failing = is_failing(&self.failing, &mut self.calls);
         let Ok(copied) = String::from_str(self.alloc, name) else {
             return Err(Fetch::Memory);
         };
@@ -107,23 +126,40 @@ impl Shelf for MemShelf {
         Err(Fetch::Failed)
     }
 
-    fn store(&mut self, name: &str, bytes: &[u8]) -> Result<(), Put> {
-        if fails(&self.failing, &mut self.calls) {
-            let half = &bytes[..bytes.len() / 2];
-            put_file(self.alloc, &mut self.files, name, half).map_err(|_| Put::Memory)?;
+    /// As the trait says. It fails exactly where the call's number is in the list, and then half of the bytes is stored.
+    fn store(&mut self, name: &str, bytes: &[u8]) -> Result<(), Put>
+        ensures partly { OnErr result (IsPartlyStored (state_of self.old).files (state_of self.new).files name.now bytes.now) }
+        ensures cause { HasPutCause (state_of self.old).put_faults (state_of self.new).put_faults result }
+        ensures state { state_of self.new ≡ after_store (state_of self.old) (state_of self.new) name.now bytes.now result }
+        ensures calls { calls_of self.new ≡ after_call (calls_of self.old) }
+        ensures failing { IsFailing (calls_of self.old) → IsPutFault result }
+        ensures failed { IsErrOf result Put.Failed → IsFailing (calls_of self.old) }
+        ensures half { IsErrOf result Put.Failed → (state_of self.new).files ≡ with_file (state_of self.old).files name.now (half_of bytes.now) }
+    {
+        if is_failing(&self.failing, &mut self.calls) {
+            put_file(self.alloc, &mut self.files, name, half_of(bytes)).map_err(|_| Put::Memory)?;
             self.put_faults = self.put_faults.saturating_add(1);
             return Err(Put::Failed);
         }
         put_file(self.alloc, &mut self.files, name, bytes).map_err(|_| Put::Memory)
     }
 
-    fn say(&mut self, bytes: &[u8]) -> Result<(), Put> {
-        if fails(&self.failing, &mut self.calls) {
-            let half = &bytes[..bytes.len() / 2];
-            self.said.extend_from_slice(half).map_err(|_| Put::Memory)?;
+    /// As the trait says. It fails exactly where the call's number is in the list, and then half of the bytes is said.
+    #[tactic(auto, using(crate::proofs::ByteLemmas::none_spoken))]
+    fn say(&mut self, bytes: &[u8]) -> Result<(), Put>
+        ensures partly { OnErr result (IsPartlySpoken (state_of self.old).said (state_of self.new).said bytes.now) }
+        ensures cause { HasPutCause (state_of self.old).put_faults (state_of self.new).put_faults result }
+        ensures state { state_of self.new ≡ after_say (state_of self.old) (state_of self.new) bytes.now result }
+        ensures calls { calls_of self.new ≡ after_call (calls_of self.old) }
+        ensures failing { IsFailing (calls_of self.old) → IsPutFault result }
+        ensures failed { IsErrOf result Put.Failed → IsFailing (calls_of self.old) }
+        ensures half { IsErrOf result Put.Failed → (state_of self.new).said ≡ with_said (state_of self.old).said (half_of bytes.now) }
+    {
+        if is_failing(&self.failing, &mut self.calls) {
+            append(&mut self.said, half_of(bytes)).map_err(|_| Put::Memory)?;
             self.put_faults = self.put_faults.saturating_add(1);
             return Err(Put::Failed);
         }
-        self.said.extend_from_slice(bytes).map_err(|_| Put::Memory)
+        append(&mut self.said, bytes).map_err(|_| Put::Memory)
     }
 }

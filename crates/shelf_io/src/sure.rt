@@ -3,9 +3,10 @@ ghost use Rattle.std.specs.Prelude.{◌≡◌, List, ℕ, [], Option, None, Some
 ghost use Rattle.std.specs.declared.alloc.Global.{Global};
 ghost use Rattle.shelf_io.specs.Causes.{HasFetchCause, HasPutCause};
 ghost use Rattle.std.specs.FinMap.{get};
-ghost use Rattle.shelf_io.specs.Held.{files_of, NamesDiffer};
+ghost use Rattle.shelf_io.specs.State.{first_state};
+ghost use Rattle.shelf_io.specs.Held.{files_of, AreNamesDistinct};
 
-use crate::held::{file_of, put_file};
+use crate::held::{append, file_of, put_file};
 use crate::{Fetch, Put, Shelf};
 use agg_base::Text;
 use std::alloc::Global;
@@ -21,12 +22,8 @@ pub struct SureShelf {
 impl SureShelf {
     /// A shelf of these files, whose names differ. Nothing is said yet.
     pub fn new(alloc: Global, files: Vec<(Text, Vec<u8>)>) -> SureShelf
-        requires { NamesDiffer files.items }
-        ensures files { ⟦<SureShelf as Shelf>⟧.files result ≡ Some (files_of files.items) }
-        ensures said { ⟦<SureShelf as Shelf>⟧.said result ≡ Some [] }
-        ensures fetch_faults { ⟦<SureShelf as Shelf>⟧.fetch_faults result ≡ 0 }
-        ensures put_faults { ⟦<SureShelf as Shelf>⟧.put_faults result ≡ 0 }
-        ensures missed { ⟦<SureShelf as Shelf>⟧.missed result ≡ [] }
+        requires { AreNamesDistinct files.items }
+        ensures { ⟦<SureShelf as Shelf>⟧.state result ≡ first_state (Some (files_of files.items)) (Some []) }
     {
         SureShelf {
             alloc,
@@ -37,7 +34,7 @@ impl SureShelf {
 
     /// The bytes of the file of that name, and `None` where it is missing. It takes no memory.
     pub fn file(&self, name: &str) -> Option<&[u8]>
-        ensures { IfSome (⟦<SureShelf as Shelf>⟧.files self.now) (λ m.
+        ensures { IfSome (⟦<SureShelf as Shelf>⟧.state self.now).files (λ m.
             MatchOption result (get m name.now ≡ None) (λ bytes. get m name.now ≡ Some bytes.now)) }
     {
         file_of(&self.files, name)
@@ -45,7 +42,7 @@ impl SureShelf {
 
     /// What was said. It takes no memory.
     pub fn said(&self) -> &[u8]
-        ensures { ⟦<SureShelf as Shelf>⟧.said self.now ≡ Some result.now }
+        ensures { (⟦<SureShelf as Shelf>⟧.state self.now).said ≡ Some result.now }
     {
         &self.said
     }
@@ -53,23 +50,15 @@ impl SureShelf {
     /// The faults of fetching and of putting: none, ever. It takes no memory.
     pub fn faults(&self) -> (u64, u64)
         ensures none { (result.0 ≡ 0) × (result.1 ≡ 0) }
-        ensures fetches { ⟦<SureShelf as Shelf>⟧.fetch_faults self.now ≡ 0 }
-        ensures puts { ⟦<SureShelf as Shelf>⟧.put_faults self.now ≡ 0 }
+        ensures fetches { (⟦<SureShelf as Shelf>⟧.state self.now).fetch_faults ≡ 0 }
+        ensures puts { (⟦<SureShelf as Shelf>⟧.state self.now).put_faults ≡ 0 }
     {
         (0, 0)
     }
 }
 
 impl Shelf for SureShelf {
-    ghost files = { λ s. Some (files_of s.files.items) };
-
-    ghost said = { λ s. Some s.said.items };
-
-    ghost fetch_faults = { λ s. 0 };
-
-    ghost put_faults = { λ s. 0 };
-
-    ghost missed = { λ s. [] };
+    ghost state = { λ s. first_state (Some (files_of s.files.items)) (Some s.said.items) };
 
     fn fetch(&mut self, alloc: Global, name: &str, limit: usize) -> Result<Vec<u8>, Fetch> {
         let Some(bytes) = file_of(&self.files, name) else {
@@ -86,14 +75,14 @@ impl Shelf for SureShelf {
     }
 
     fn say(&mut self, bytes: &[u8]) -> Result<(), Put> {
-        self.said.extend_from_slice(bytes).map_err(|_| Put::Memory)
+        append(&mut self.said, bytes).map_err(|_| Put::Memory)
     }
 }
 
 /// No call of a `SureShelf` answers `Failed`: that comes only where a count rose, and its counts are 0 in every state.
 pub fn sure_law()
     ensures fetch { (before after : SureShelf) (answer : Result (Vec ℕ Global) Fetch) →
-        HasFetchCause (⟦<SureShelf as Shelf>⟧.fetch_faults before) (⟦<SureShelf as Shelf>⟧.fetch_faults after) answer → ¬ (IsErrOf answer Fetch.Failed) }
+        HasFetchCause (⟦<SureShelf as Shelf>⟧.state before).fetch_faults (⟦<SureShelf as Shelf>⟧.state after).fetch_faults answer → ¬ (IsErrOf answer Fetch.Failed) }
     ensures put { (before after : SureShelf) (answer : Result (Unit {0}) Put) →
-        HasPutCause (⟦<SureShelf as Shelf>⟧.put_faults before) (⟦<SureShelf as Shelf>⟧.put_faults after) answer → ¬ (IsErrOf answer Put.Failed) }
+        HasPutCause (⟦<SureShelf as Shelf>⟧.state before).put_faults (⟦<SureShelf as Shelf>⟧.state after).put_faults answer → ¬ (IsErrOf answer Put.Failed) }
 {}

@@ -1,7 +1,7 @@
 use Rattle.std.proofs.Common.{rules, ap, sym, ◌∙◌}
 use Rattle.std.proofs.lemmas.List.{take_rest}
 use Rattle.shelf_io.proofs.NameLemmas.{differ_more, not_different}
-use Rattle.shelf_io.proofs.names.names_differ.Goals as goal
+use Rattle.shelf_io.proofs.names.are_names_distinct.Goals as goal
 
 pub returns-then-is_some : goal.returns-then-is_some
 returns-then-is_some c =
