@@ -6,7 +6,7 @@ use Rattle.std.proofs.lemmas.List.Sums.{length-filter, count_by-le-length, sum_b
 use Rattle.plane_edge.specs.declared.edge.Edge.{Edge}
 use Rattle.plane_edge.specs.declared.spot.Spot.{Spot}
 use Rattle.plane_edge.specs.Edges.{IsRisingEdges, IsClosed}
-use Rattle.plane_edge.specs.Rings.{Outline, step_count}
+use Rattle.plane_edge.specs.Rings.{Area, step_count}
 use Rattle.plane_edge.proofs.EndLemmas.{closed_from_even_ends}
 use Rattle.plane_strip.specs.Strip.{IsPlanar, IsRising}
 use Rattle.coverage_check.specs.declared.border.Border.{Border}
@@ -18,7 +18,7 @@ use Rattle.coverage_check.specs.Cover.{odd_of, IsOddIn, IsOddSomewhere, IsPlanar
 use Rattle.coverage_check.specs.Crossing.{IsCrossing, IsFirstCrossing}
 use Rattle.coverage_check.specs.Fault.{IsUncrossed, IsFaultOf, IsCrossingOrMemory, IsSharedOrMemory, IsOverlapOrMemory, IsMemory}
 use Rattle.coverage_check.specs.Heights.{end_heights_of}
-use Rattle.coverage_check.specs.Kept.{odd_part, has_edge, kept_of, odds_of}
+use Rattle.coverage_check.specs.Kept.{OddArea, odd_part, has_edge, kept_of, odds_of, odd_edge_count}
 use Rattle.coverage_check.specs.Parts.{IsOddPart}
 use Rattle.coverage_check.specs.Sharing.{IsShared, IsFirstShared}
 use Rattle.coverage_check.specs.Uses.{AreUsesOf, AreEdgesOf, IsUsed}
@@ -70,22 +70,22 @@ planar_of odds us u free few = record {
 }
 
 -- ---- the parts
-part_at : (P : List Edge → Type 0) (areas : List Outline) (a : ℕ) → P [] → ((b : Outline) → IsOddPart b → P b.steps) → All IsOddPart areas → P (odd_of (odds_of areas) a)
+part_at : (P : List Edge → Type 0) (areas : List OddArea) (a : ℕ) → P [] → ((b : OddArea) → IsOddPart b → P b.odd_edges) → All IsOddPart areas → P (odd_of (odds_of areas) a)
 part_at P areas a none each parts = elim (cases_lt a (length areas)) [
-  | inl l ↦ (let d : Outline = record { class = []; steps = [] } in subst P (sym (get_or-map (λ (b : Outline). b.steps) areas a d [] l)) (each (get_or areas a d) (parts a d l)))
-  | inr l ↦ subst P (sym (get_or_past (odds_of areas) a [] (omega (arith, length-map areas (λ (b : Outline). b.steps))))) none
+  | inl l ↦ (let d : OddArea = record { class = []; odd_edges = [] } in subst P (sym (get_or-map (λ (b : OddArea). b.odd_edges) areas a d [] l)) (each (get_or areas a d) (parts a d l)))
+  | inr l ↦ subst P (sym (get_or_past (odds_of areas) a [] (omega (arith, length-map areas (λ (b : OddArea). b.odd_edges))))) none
 ]
 
-pub parts_rising : (areas : List Outline) → All IsOddPart areas → (a : ℕ) → IsRisingEdges (odd_of (odds_of areas) a)
+pub parts_rising : (areas : List OddArea) → All IsOddPart areas → (a : ℕ) → IsRisingEdges (odd_of (odds_of areas) a)
 parts_rising areas parts a = part_at IsRisingEdges areas a tt (λ b p. p.rising) parts
 
 none_closed : IsClosed []
 none_closed y m r = refl
 
-pub parts_closed : (areas : List Outline) → All IsOddPart areas → (a : ℕ) → IsClosed (odd_of (odds_of areas) a)
-parts_closed areas parts a = part_at IsClosed areas a none_closed (λ b p. closed_from_even_ends b.steps p.even) parts
+pub parts_closed : (areas : List OddArea) → All IsOddPart areas → (a : ℕ) → IsClosed (odd_of (odds_of areas) a)
+parts_closed areas parts a = part_at IsClosed areas a none_closed (λ b p. closed_from_even_ends b.odd_edges p.even) parts
 
-pub listed : (areas : List Outline) (us : List Use) (es : List Edge) (bs : List Border) (hs : List ℤ) → All IsOddPart areas → AreUsesOf (odds_of areas) us → AreEdgesOf us es → AreBordersOf us bs → IsRising hs → ((y : ℤ) → Contains hs y ↔ Contains (end_heights_of es) y) → IsPlanar es → AreListed (odds_of areas) us es bs hs
+pub listed : (areas : List OddArea) (us : List Use) (es : List Edge) (bs : List Border) (hs : List ℤ) → All IsOddPart areas → AreUsesOf (odds_of areas) us → AreEdgesOf us es → AreBordersOf us bs → IsRising hs → ((y : ℤ) → Contains hs y ↔ Contains (end_heights_of es) y) → IsPlanar es → AreListed (odds_of areas) us es bs hs
 listed areas us es bs hs parts u l b r h p = record {
   uses = u;
   edges = l;
@@ -98,16 +98,16 @@ listed areas us es bs hs parts u l b r h p = record {
 }
 
 -- ---- the sizes
-pub kept_short : (areas : List Outline) → length (kept_of areas) ≤ length areas
+pub kept_short : (areas : List Area) → length (kept_of areas) ≤ length areas
 kept_short areas = omega (arith, length-filter has_edge (map odd_part areas), count_by-le-length has_edge (map odd_part areas), length-map areas odd_part)
 
-pub kept_steps : (areas : List Outline) → step_count (kept_of areas) ≤ step_count areas
-kept_steps [] = omega arith
-kept_steps (a ∷ areas) = go (has_edge (odd_part a)) (kept_steps areas)
+pub kept_edges : (areas : List Area) → odd_edge_count (kept_of areas) ≤ step_count areas
+kept_edges [] = omega arith
+kept_edges (a ∷ areas) = go (has_edge (odd_part a)) (kept_edges areas)
   where
-    go : (b : Bool) → step_count (kept_of areas) ≤ step_count areas → step_count (cond b (odd_part a ∷ kept_of areas) (kept_of areas)) ≤ step_count (a ∷ areas)
-    go true r = omega (arith, r, odd_list_short a.steps, sum_by-cons (λ (b : Outline). length b.steps) (odd_part a) (kept_of areas), sum_by-cons (λ (b : Outline). length b.steps) a areas)
-    go false r = omega (arith, r, sum_by-cons (λ (b : Outline). length b.steps) a areas)
+    go : (b : Bool) → odd_edge_count (kept_of areas) ≤ step_count areas → odd_edge_count (cond b (odd_part a ∷ kept_of areas) (kept_of areas)) ≤ step_count (a ∷ areas)
+    go true r = omega (arith, r, odd_list_short a.steps, sum_by-cons (λ (b : OddArea). length b.odd_edges) (odd_part a) (kept_of areas), sum_by-cons (λ (b : Area). length b.steps) a areas)
+    go false r = omega (arith, r, sum_by-cons (λ (b : Area). length b.steps) a areas)
 
 -- ---- through the layers of an answer
 pub found_weaker : {A E : Type 0} (P Q : A → Type 0) (r : Result (Option A) E) → ((o : A) → P o → Q o) → IfOk r (λ o. IfSome o P) → IfOk r (λ o. IfSome o Q)

@@ -8,8 +8,8 @@ use Rattle.plane_edge.specs.Edges.{is_same_edge, is_edge_below, IsRisingEdges, o
 use Rattle.plane_edge.proofs.EvenLists.{bit}
 use Rattle.plane_edge.proofs.OrderLemmas.{same_edges_equal, equal_edges_same, edge_below-trans, edge_below-irreflexive, edge_below-one_way, edge_case, below, same, above}
 use Rattle.plane_edge.proofs.OddLemmas.{odd_from_parity, odd_unique, occurrences-cons}
-use Rattle.plane_edge.specs.Rings.{Outline}
-use Rattle.coverage_check.specs.Kept.{toggled, odd_list, odd_part, has_edge, kept_of}
+use Rattle.plane_edge.specs.Rings.{Area}
+use Rattle.coverage_check.specs.Kept.{OddArea, toggled, odd_list, odd_part, has_edge, kept_of}
 use Rattle.coverage_check.specs.Parts.{IsOddPart}
 
 -- ---- elements
@@ -104,8 +104,8 @@ odd_list_odd steps = odd_from_parity steps (odd_list steps) (odd_list_rising ste
 pub odd_list_only : (steps odd : List Edge) → AreOddOf steps odd → odd ≡ odd_list steps
 odd_list_only steps odd a = odd_unique steps odd (odd_list steps) a (odd_list_odd steps)
 
-abbrev pub outline : List ℕ → List Edge → Outline
-outline c es = record { class = c; steps = es }
+abbrev pub outline : List ℕ → List Edge → OddArea
+outline c es = record { class = c; odd_edges = es }
 
 pub outlines_same : (c d : List ℕ) (es fs : List Edge) → c ≡ d → es ≡ fs → outline c es ≡ outline d fs
 outlines_same c d es fs p q = ap (λ x. outline x es) p ∙ ap (λ x. outline d x) q
@@ -125,20 +125,20 @@ odd_list_short [] = omega arith
 odd_list_short (e ∷ es) = omega (arith, toggled_short e (odd_list es), odd_list_short es)
 
 -- ---- one area more
-kept_next : (areas : List Outline) (i : ℕ) (a : Outline) → i < length areas → a ≡ get_or areas i a → kept_of (take (i + 1) areas) ≡ kept_of (take i areas) ++ filter has_edge (odd_part a ∷ [])
+kept_next : (areas : List Area) (i : ℕ) (a : Area) → i < length areas → a ≡ get_or areas i a → kept_of (take (i + 1) areas) ≡ kept_of (take i areas) ++ filter has_edge (odd_part a ∷ [])
 kept_next areas i a l is =
-    ap (λ (xs : List Outline). filter has_edge xs) (map_more odd_part areas i a l ∙ ap (λ (b : Outline). map odd_part (take i areas) ++ odd_part b ∷ []) (sym is))
+    ap (λ (xs : List OddArea). filter has_edge xs) (map_more odd_part areas i a l ∙ ap (λ (b : Area). map odd_part (take i areas) ++ odd_part b ∷ []) (sym is))
     ∙ filter-append has_edge (map odd_part (take i areas)) (odd_part a ∷ [])
 
-pub kept_yes : (areas : List Outline) (i : ℕ) (a o : Outline) (kept held : List Outline) → i < length areas → a ≡ get_or areas i a → o ≡ odd_part a → has_edge o ≡ true → IsRisingEdges o.steps → HaveEvenEnds o.steps →
+pub kept_yes : (areas : List Area) (i : ℕ) (a : Area) (o : OddArea) (kept held : List OddArea) → i < length areas → a ≡ get_or areas i a → o ≡ odd_part a → has_edge o ≡ true → IsRisingEdges o.odd_edges → HaveEvenEnds o.odd_edges →
     (kept ≡ kept_of (take i areas)) × All IsOddPart kept → held ≡ kept ++ o ∷ [] → (held ≡ kept_of (take (i + 1) areas)) × All IsOddPart held
 kept_yes areas i a o kept held l is part some rising even prior now =
     let one : filter has_edge (odd_part a ∷ []) ≡ odd_part a ∷ [] = ap (λ b. cond b (odd_part a ∷ []) []) (ap has_edge (sym part) ∙ some) in
     let all = All-push IsOddPart kept o prior.1 (record { some = some; rising = rising; even = even }) in
-    (now ∙ ap (λ (xs : List Outline). xs ++ o ∷ []) prior.0 ∙ ap (λ (b : Outline). kept_of (take i areas) ++ b ∷ []) part ∙ ap (λ (xs : List Outline). kept_of (take i areas) ++ xs) (sym one) ∙ sym (kept_next areas i a l is), subst (All IsOddPart) (sym now) all)
+    (now ∙ ap (λ (xs : List OddArea). xs ++ o ∷ []) prior.0 ∙ ap (λ (b : OddArea). kept_of (take i areas) ++ b ∷ []) part ∙ ap (λ (xs : List OddArea). kept_of (take i areas) ++ xs) (sym one) ∙ sym (kept_next areas i a l is), subst (All IsOddPart) (sym now) all)
 
-pub kept_no : (areas : List Outline) (i : ℕ) (a o : Outline) (kept held : List Outline) → i < length areas → a ≡ get_or areas i a → o ≡ odd_part a → has_edge o ≡ false →
+pub kept_no : (areas : List Area) (i : ℕ) (a : Area) (o : OddArea) (kept held : List OddArea) → i < length areas → a ≡ get_or areas i a → o ≡ odd_part a → has_edge o ≡ false →
     (kept ≡ kept_of (take i areas)) × All IsOddPart kept → held ≡ kept → (held ≡ kept_of (take (i + 1) areas)) × All IsOddPart held
 kept_no areas i a o kept held l is part none prior now =
     let one : filter has_edge (odd_part a ∷ []) ≡ [] = ap (λ b. cond b (odd_part a ∷ []) []) (ap has_edge (sym part) ∙ none) in
-    (now ∙ prior.0 ∙ sym (append-nil (kept_of (take i areas))) ∙ ap (λ (xs : List Outline). kept_of (take i areas) ++ xs) (sym one) ∙ sym (kept_next areas i a l is), subst (All IsOddPart) (sym now) prior.1)
+    (now ∙ prior.0 ∙ sym (append-nil (kept_of (take i areas))) ∙ ap (λ (xs : List OddArea). kept_of (take i areas) ++ xs) (sym one) ∙ sym (kept_next areas i a l is), subst (All IsOddPart) (sym now) prior.1)

@@ -9,8 +9,8 @@ use Rattle.std.proofs.lemmas.List.Kept.{AllPairs-filter}
 use Rattle.plane_edge.specs.declared.edge.Edge.{Edge}
 use Rattle.plane_edge.specs.declared.spot.Spot.{Spot}
 use Rattle.plane_edge.specs.Coordinate.{IsCoordinate}
-use Rattle.plane_edge.specs.Edges.{is_edge_below, IsRisingEdges, reaches, IsClosed}
-use Rattle.plane_edge.specs.Plane.{IsInside, crosses, side_of}
+use Rattle.plane_edge.specs.Edges.{is_edge_below, IsRisingEdges, is_reached, IsClosed}
+use Rattle.plane_edge.specs.Plane.{IsInside, is_crossed, side_of}
 use Rattle.plane_edge.proofs.OddLemmas.{rising_unique}
 use Rattle.plane_strip.specs.Strip.{IsPlanar, IsRising, EndsAt}
 use Rattle.plane_strip.proofs.LeastLemmas.{reach_parts}
@@ -91,10 +91,10 @@ climbs_between low high y m r a b = elim (either_way high low) [
   | inl l ↦ (let w = le-mul m high low (omega (arith, lin)) l in absurd (omega (arith, lin, *ℤ_comm m high, *ℤ_comm m low)))
 ]
 
-pub crossed_steep : (e : Edge) (s : Spot) → pos 0 <ℤ s.m → crosses e s ≡ true → e.low.y <ℤ e.high.y
+pub crossed_steep : (e : Edge) (s : Spot) → pos 0 <ℤ s.m → is_crossed e s ≡ true → e.low.y <ℤ e.high.y
 crossed_steep e s r h = let p = test_range (e.low.y *ℤ s.m) s.y (e.high.y *ℤ s.m) (side_of e s) h in climbs_between e.low.y e.high.y s.y s.m r p.0 p.1
 
-pub reached_steep : (e : Edge) (y m : ℤ) → pos 0 <ℤ m → reaches y m e ≡ true → e.low.y <ℤ e.high.y
+pub reached_steep : (e : Edge) (y m : ℤ) → pos 0 <ℤ m → is_reached y m e ≡ true → e.low.y <ℤ e.high.y
 reached_steep e y m r h = let p = reach_parts (e.low.y *ℤ m) y (e.high.y *ℤ m) h in climbs_between e.low.y e.high.y y m r p.0 p.1
 
 -- ---- the lists of one coverage
@@ -141,7 +141,7 @@ counts_alike odds us es bs hs l a p only =
 
 pub inside_alike : (odds : List (List Edge)) (us : List Use) (es : List Edge) (bs : List Border) (hs : List ℤ) → AreListed odds us es bs hs → (a : ℕ) (s : Spot) → pos 0 <ℤ s.m → IsInside (odds_in bs a) s ↔ IsInside (odd_of odds a) s
 inside_alike odds us es bs hs l a s r =
-    let e = ap (λ n. n % 2) (counts_alike odds us es bs hs l a (λ e. crosses e s) (λ e h. crossed_steep e s r h)) in
+    let e = ap (λ n. n % 2) (counts_alike odds us es bs hs l a (λ e. is_crossed e s) (λ e h. crossed_steep e s r h)) in
     ((λ h. sym e ∙ h), (λ h. e ∙ h))
 
 -- ---- heights
@@ -199,7 +199,7 @@ laid_out odds us es bs hs l = record {
   ends = λ k d m. ends_at es hs l.heights (get_or bs k d).edge (border_edge odds us es bs hs l (get_or bs k d) (Contains-get_or bs k d m));
   in_order = l.borders.in_order;
   planar = λ e f c d n s. l.planar e f (held e c) (held f d) n s;
-  closed = λ a y m r. ap (λ n. n % 2) (counts_alike odds us es bs hs l a (λ e. reaches y m e) (λ e h. reached_steep e y m r h)) ∙ l.closed a y m r;
+  closed = λ a y m r. ap (λ n. n % 2) (counts_alike odds us es bs hs l a (λ e. is_reached y m e) (λ e h. reached_steep e y m r h)) ∙ l.closed a y m r;
 }
   where
     held : (e : Edge) → Contains (map (λ b. b.edge) bs) e → Contains es e

@@ -14,3 +14,4 @@ pub mod PartnerLemmas
 pub mod SpanLemmas
 pub mod SharedLemmas
 pub mod CheckLemmas
+pub mod OneFault

@@ -6,7 +6,7 @@ use Rattle.plane_edge.specs.declared.edge.Edge.{Edge}
 use Rattle.plane_edge.specs.declared.spot.Spot.{Spot}
 use Rattle.plane_edge.specs.Plane.{IsInside, IsLowest, Same}
 use Rattle.plane_edge.proofs.SameLemmas.{same-swap}
-use Rattle.plane_edge.proofs.SpellLemmas.{crosses-same}
+use Rattle.plane_edge.proofs.SpellLemmas.{is_crossed-same}
 use Rattle.plane_strip.specs.Strip.{IsRising, AreNeighbours}
 use Rattle.plane_strip.proofs.CoverLemmas.{IsInside-same, none_between, rising-pair}
 use Rattle.plane_strip.proofs.LeastLemmas.{candidate}
@@ -22,7 +22,7 @@ use Rattle.coverage_check.proofs.AcrossStrip.{Sets, strip_from}
 
 -- ---- another spelling of the spot
 inside-same : (es : List Edge) (s t : Spot) → pos 0 <ℤ s.m → pos 0 <ℤ t.m → Same s t → IsInside es s → IsInside es t
-inside-same es s t hs ht h i = IsInside-same es s t (λ k d l. sym (crosses-same (get_or es k d) s t hs ht h)) i
+inside-same es s t hs ht h i = IsInside-same es s t (λ k d l. sym (is_crossed-same (get_or es k d) s t hs ht h)) i
 
 pub first-same : (odds : ℕ → List Edge) (h k : ℤ) (a b : ℕ) (s t : Spot) → pos 0 <ℤ t.m → Same s t → IsFirstBetween odds h k a b s → IsFirstBetween odds h k a b t
 first-same odds h k a b s t real same f =

@@ -7,11 +7,11 @@ use Rattle.std.proofs.lemmas.List.Elements.{All-from_get_or, All-contains, All-w
 use Rattle.std.proofs.lemmas.List.Sums.{sum_by-take-drop}
 use Rattle.plane_edge.specs.declared.edge.Edge.{Edge}
 use Rattle.plane_edge.specs.declared.spot.Spot.{Spot}
-use Rattle.plane_edge.specs.Plane.{crosses, IsInside, rise}
+use Rattle.plane_edge.specs.Plane.{is_crossed, IsInside, rise}
 use Rattle.plane_strip.specs.Strip.{IsPlanar, InStrip, NoEndBetween, Spans, lead}
-use Rattle.plane_edge.specs.Edges.{reaches, IsClosed}
+use Rattle.plane_edge.specs.Edges.{is_reached, IsClosed}
 use Rattle.plane_strip.proofs.StripLemmas.{spans, spanned, height-y, up, lead-swap}
-use Rattle.plane_strip.proofs.MidLemmas.{mid_strip, crosses-spanned, crosses-other, spans_or, mid-strip-at, side-lead, lead-self, lt_true, lt_false}
+use Rattle.plane_strip.proofs.MidLemmas.{mid_strip, is_crossed-spanned, is_crossed-other, spans_or, mid-strip-at, side-lead, lead-self, lt_true, lt_false}
 use Rattle.plane_strip.proofs.LeastLemmas.{reach_true, reach_parts, candidate}
 use Rattle.plane_strip.proofs.CoverLemmas.{IsInside-same}
 use Rattle.whole_ring.proofs.Laws.{*ℤ_comm, *ℤ_assoc}
@@ -35,14 +35,14 @@ pub record IsStrip (h k : ℤ) (es : List Edge) (odds : ℕ → List Edge) (bs :
 
 -- ---- which borders are crossed from the place of one
 crossed_at : (h k : ℤ) (es : List Edge) (odds : ℕ → List Edge) (bs : List Border) (s : IsStrip h k es odds bs) (i j : ℕ) (d : Border) → i < length bs → j < length bs →
-    crosses (get_or bs j d).edge (mid_of h k (get_or bs i d).edge) ≡ ltb i j
+    is_crossed (get_or bs j d).edge (mid_of h k (get_or bs i d).edge) ≡ ltb i j
 crossed_at h k es odds bs s i j d hi hj =
     let e = (get_or bs i d).edge in
     let f = (get_or bs j d).edge in
     let t = mid_of h k e in
     let pe = s.spans_all i d hi in
     let pf = s.spans_all j d hj in
-    let by_side : crosses f t ≡ int_lt (pos 0) (lead f e (h +ℤ k) (pos 2)) = crosses-spanned h k f t (mid-strip-at h k e s.rising pe) pf ∙ ap (λ z. int_lt (pos 0) z) (side-lead f e (h +ℤ k) (pos 2)) in
+    let by_side : is_crossed f t ≡ int_lt (pos 0) (lead f e (h +ℤ k) (pos 2)) = is_crossed-spanned h k f t (mid-strip-at h k e s.rising pe) pf ∙ ap (λ z. int_lt (pos 0) z) (side-lead f e (h +ℤ k) (pos 2)) in
     elim (cases_order i j) [
       | inl same ↦ by_side ∙ lt_false (pos 0) (lead f e (h +ℤ k) (pos 2)) (let z = ap (λ n. lead (get_or bs n d).edge e (h +ℤ k) (pos 2)) same in let w = lead-self e (h +ℤ k) (pos 2) in omega (arith, lin)) ∙ sym (le-ltb i j (omega arith))
       | inr (inl l) ↦ by_side ∙ lt_true (pos 0) (lead f e (h +ℤ k) (pos 2)) (s.sorted i j d l hj) ∙ sym (lt-ltb i j l)
@@ -50,10 +50,10 @@ crossed_at h k es odds bs s i j d hi hj =
     ]
 
 -- an edge that is crossed in the strip spans it
-crossed_spans : (h k : ℤ) (e : Edge) (t : Spot) → InStrip h k t.y t.m → NoEndBetween h k e → crosses e t ≡ true → Spans h k e
+crossed_spans : (h k : ℤ) (e : Edge) (t : Spot) → InStrip h k t.y t.m → NoEndBetween h k e → is_crossed e t ≡ true → Spans h k e
 crossed_spans h k e t i n c = elim (spans_or h k e) [
   | inl p ↦ p
-  | inr out ↦ absurd (clash (crosses e t) c (crosses-other h k e t i n out))
+  | inr out ↦ absurd (clash (is_crossed e t) c (is_crossed-other h k e t i n out))
 ]
   where
     clash : (b : Bool) → b ≡ true → b ≡ false → ⊥
@@ -69,17 +69,17 @@ and_true true y e = e
 and_true false y e = refl
 
 apart_counts : (h k : ℤ) (es : List Edge) (odds : ℕ → List Edge) (bs : List Border) (s : IsStrip h k es odds bs) (i a : ℕ) (d : Border) → i < length bs →
-    count_by (λ b. is_of a b && crosses b.edge (mid_of h k (get_or bs i d).edge)) bs ≡ count_by (λ b. is_of a b) (drop (i + 1) bs)
+    count_by (λ b. is_of a b && is_crossed b.edge (mid_of h k (get_or bs i d).edge)) bs ≡ count_by (λ b. is_of a b) (drop (i + 1) bs)
 apart_counts h k es odds bs s i a d hi =
     let t = mid_of h k (get_or bs i d).edge in
-    let p : Border → Bool = λ b. is_of a b && crosses b.edge t in
+    let p : Border → Bool = λ b. is_of a b && is_crossed b.edge t in
     let front : count_by p (take (i + 1) bs) ≡ 0 = count_none p (take (i + 1) bs) (All-from_get_or (λ b. p b ≡ false) (take (i + 1) bs) d (λ j l.
     (let lj : j < i + 1 = omega (arith, length-take-le (i + 1) bs (omega arith)) in
-    ap (λ b. p b) (get_or-take (i + 1) bs j d lj) ∙ and_false (is_of a (get_or bs j d)) (crosses (get_or bs j d).edge t) (crossed_at h k es odds bs s i j d hi (omega arith) ∙ le-ltb i j (omega arith))))) in
+    ap (λ b. p b) (get_or-take (i + 1) bs j d lj) ∙ and_false (is_of a (get_or bs j d)) (is_crossed (get_or bs j d).edge t) (crossed_at h k es odds bs s i j d hi (omega arith) ∙ le-ltb i j (omega arith))))) in
     let back : count_by p (drop (i + 1) bs) ≡ count_by (λ b. is_of a b) (drop (i + 1) bs) = count_same p (λ b. is_of a b) (drop (i + 1) bs) (All-from_get_or (λ b. p b ≡ is_of a b) (drop (i + 1) bs) d (λ j l.
     (let lj : i + 1 + j < length bs = omega (arith, length-drop (i + 1) bs) in
     let e = get_or-drop (i + 1) bs j d in
-    ap (λ b. p b) e ∙ and_true (is_of a (get_or bs (i + 1 + j) d)) (crosses (get_or bs (i + 1 + j) d).edge t) (crossed_at h k es odds bs s i (i + 1 + j) d hi lj ∙ lt-ltb i (i + 1 + j) (omega arith)) ∙ ap (λ b. is_of a b) (sym e)))) in
+    ap (λ b. p b) e ∙ and_true (is_of a (get_or bs (i + 1 + j) d)) (is_crossed (get_or bs (i + 1 + j) d).edge t) (crossed_at h k es odds bs s i (i + 1 + j) d hi lj ∙ lt-ltb i (i + 1 + j) (omega arith)) ∙ ap (λ b. is_of a b) (sym e)))) in
     omega (arith, sum_by-take-drop (λ b. cond (p b) 1 0) bs (i + 1), front, back)
 
 -- an even number of an area's borders are in the strip
@@ -87,22 +87,22 @@ even_in_all : (h k : ℤ) (es : List Edge) (odds : ℕ → List Edge) (bs : List
 even_in_all h k es odds bs s a =
     let y = h +ℤ k in
     let strip = mid_strip h k s.rising in
-    let spanning : (e : Edge) → Contains es e → reaches y (pos 2) e ≡ true → Spans h k e = λ e m r. (let q = reach_parts (e.low.y *ℤ pos 2) y (e.high.y *ℤ pos 2) r in spans h k e y (pos 2) strip (All-contains (NoEndBetween h k) es e s.ends m) q.0 q.1) in
-    let one = s.counts a (λ e. reaches y (pos 2) e) spanning in
-    let two = count_same (λ b. is_of a b && reaches y (pos 2) b.edge) (λ b. is_of a b) bs (λ i d l.
+    let spanning : (e : Edge) → Contains es e → is_reached y (pos 2) e ≡ true → Spans h k e = λ e m r. (let q = reach_parts (e.low.y *ℤ pos 2) y (e.high.y *ℤ pos 2) r in spans h k e y (pos 2) strip (All-contains (NoEndBetween h k) es e s.ends m) q.0 q.1) in
+    let one = s.counts a (λ e. is_reached y (pos 2) e) spanning in
+    let two = count_same (λ b. is_of a b && is_reached y (pos 2) b.edge) (λ b. is_of a b) bs (λ i d l.
     (let q = spanned h k (get_or bs i d).edge y (pos 2) strip (s.spans_all i d l) in
-    and_true (is_of a (get_or bs i d)) (reaches y (pos 2) (get_or bs i d).edge) (reach_true ((get_or bs i d).edge.low.y *ℤ pos 2) y ((get_or bs i d).edge.high.y *ℤ pos 2) q.0 q.1))) in
+    and_true (is_of a (get_or bs i d)) (is_reached y (pos 2) (get_or bs i d).edge) (reach_true ((get_or bs i d).edge.low.y *ℤ pos 2) y ((get_or bs i d).edge.high.y *ℤ pos 2) q.0 q.1))) in
     let even = s.closed a y (pos 2) strip.real in
     omega (arith, one, two, even)
 
 pub inside_at : (h k : ℤ) (es : List Edge) (odds : ℕ → List Edge) (bs : List Border) (s : IsStrip h k es odds bs) (i a : ℕ) (d : Border) → i < length bs →
-    count_by (λ e. crosses e (mid_of h k (get_or bs i d).edge)) (odds a) % 2 ≡ count_by (λ b. is_of a b) (take (i + 1) bs) % 2
+    count_by (λ e. is_crossed e (mid_of h k (get_or bs i d).edge)) (odds a) % 2 ≡ count_by (λ b. is_of a b) (take (i + 1) bs) % 2
 inside_at h k es odds bs s i a d hi =
     let e = (get_or bs i d).edge in
     let t = mid_of h k e in
     let pe = s.spans_all i d hi in
     let strip = mid-strip-at h k e s.rising pe in
-    let one = s.counts a (λ f. crosses f t) (λ f m c. crossed_spans h k f t strip (All-contains (NoEndBetween h k) es f s.ends m) c) in
+    let one = s.counts a (λ f. is_crossed f t) (λ f m c. crossed_spans h k f t strip (All-contains (NoEndBetween h k) es f s.ends m) c) in
     let two = apart_counts h k es odds bs s i a d hi in
     let all = sum_by-take-drop (λ b. cond (is_of a b) 1 0) bs (i + 1) in
     let even = even_in_all h k es odds bs s a in
@@ -140,7 +140,7 @@ shifted h k es odds bs s a b t d two =
     let at = s.complete f c.1.held c.1.spans_strip in
     let e = at.1.1 d in
     let same : (area : ℕ) → IsInside (odds area) t → IsInside (odds area) (mid_of h k f) = λ area inside. IsInside-same (odds area) t (mid_of h k f)
-    (All-weaker (Contains es) (λ g. crosses g (mid_of h k f) ≡ crosses g t) (λ g m. All-contains (λ g. crosses g (mid_of h k f) ≡ crosses g t) es g c.1.same_crossings m) (odds area) (s.held area)) inside in
+    (All-weaker (Contains es) (λ g. is_crossed g (mid_of h k f) ≡ is_crossed g t) (λ g m. All-contains (λ g. is_crossed g (mid_of h k f) ≡ is_crossed g t) es g c.1.same_crossings m) (odds area) (s.held area)) inside in
     let here : (area : ℕ) → IsInside (odds area) t → is_inside_after bs (at.0 + 1) area ≡ true = λ area inside. inside_then h k es odds bs s at.0 area d at.1.0 (subst (λ g. IsInside (odds area) (mid_of h k g)) (sym e) (same area inside)) in
     record {
       at = at.0;

@@ -14,12 +14,11 @@ use Rattle.std.proofs.lemmas.List.Elements.{All-from_recursion, Contains-append_
 use Rattle.plane_edge.specs.declared.edge.Edge.{Edge}
 use Rattle.plane_edge.specs.declared.point.Point.{Point}
 use Rattle.plane_edge.specs.Edges.{is_edge_below, IsRisingEdges}
-use Rattle.plane_edge.specs.Rings.{Outline}
 use Rattle.plane_edge.proofs.OrderLemmas.{edge_order, edge_order_total, edge_less, edge_below_is_less, edge_below-one_way, edge_below-irreflexive, same_edge_is_equal, same_edges_equal, same_edge_itself}
 use Rattle.plane_strip.specs.Strip.{IsRising}
 use Rattle.coverage_check.specs.declared.usage.Use.{Use}
 use Rattle.coverage_check.specs.Cover.{odd_of, IsOddIn}
-use Rattle.coverage_check.specs.Kept.{odds_of}
+use Rattle.coverage_check.specs.Kept.{OddArea, odds_of}
 use Rattle.coverage_check.specs.Uses.{used_by, IsUseBelow, AreRisingUses, IsUsed, uses_from}
 use Rattle.coverage_check.proofs.Counts.{Contains-map, from_map}
 
@@ -118,14 +117,14 @@ uses_push k (fs ∷ odds) es =
     next : (k n : ℕ) → k + 1 + n ≡ k + suc n
     next k n = omega arith
 
-pub uses_more : (areas : List Outline) (n : ℕ) (a : Outline) (us new : List Use) → n < length areas → a ≡ get_or areas n a → us ≡ uses_from 0 (odds_of (take n areas)) → new ≡ us ++ map (λ e. used_by e n) a.steps → new ≡ uses_from 0 (odds_of (take (n + 1) areas))
+pub uses_more : (areas : List OddArea) (n : ℕ) (a : OddArea) (us new : List Use) → n < length areas → a ≡ get_or areas n a → us ≡ uses_from 0 (odds_of (take n areas)) → new ≡ us ++ map (λ e. used_by e n) a.odd_edges → new ≡ uses_from 0 (odds_of (take (n + 1) areas))
 uses_more areas n a us new l is before now =
-    let long : 0 + length (odds_of (take n areas)) ≡ n = omega (arith, length-map (take n areas) (λ (b : Outline). b.steps), length-take-le n areas (omega arith)) in
-    let one = ap (λ (xs : List Use). xs ++ map (λ (e : Edge). used_by e n) a.steps) before in
-    let two = ap (λ (i : ℕ). uses_from 0 (odds_of (take n areas)) ++ map (λ (e : Edge). used_by e i) a.steps) (sym long) in
-    let three = sym (uses_push 0 (odds_of (take n areas)) a.steps) in
-    let four = sym (map_push (λ (b : Outline). b.steps) (take n areas) a) in
-    let five = ap (λ (b : Outline). take n areas ++ b ∷ []) is ∙ sym (take_more areas n a l) in
+    let long : 0 + length (odds_of (take n areas)) ≡ n = omega (arith, length-map (take n areas) (λ (b : OddArea). b.odd_edges), length-take-le n areas (omega arith)) in
+    let one = ap (λ (xs : List Use). xs ++ map (λ (e : Edge). used_by e n) a.odd_edges) before in
+    let two = ap (λ (i : ℕ). uses_from 0 (odds_of (take n areas)) ++ map (λ (e : Edge). used_by e i) a.odd_edges) (sym long) in
+    let three = sym (uses_push 0 (odds_of (take n areas)) a.odd_edges) in
+    let four = sym (map_push (λ (b : OddArea). b.odd_edges) (take n areas) a) in
+    let five = ap (λ (b : OddArea). take n areas ++ b ∷ []) is ∙ sym (take_more areas n a l) in
     now ∙ one ∙ two ∙ three ∙ ap (λ (xs : List (List Edge)). uses_from 0 xs) (four ∙ ap odds_of five)
 
 mapped : {X Y : Type 0} (f : X → Y) (xs : List X) (x : X) → Contains xs x → Contains (map f xs) (f x)

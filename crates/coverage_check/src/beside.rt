@@ -1,4 +1,4 @@
-//! Passing over edges that lie beside another.
+// Passing over edges that lie beside another.
 ghost use Rattle.std.specs.Prelude.{◌≡◌, ◌+◌, ◌<◌, ◌≤◌, length};
 ghost use Rattle.coverage_check.specs.Partners.{AreBeside, AreLeft};
 ghost use Rattle.coverage_check.specs.Spans.{AreSpans};
@@ -6,7 +6,7 @@ ghost use Rattle.coverage_check.specs.Spans.{AreSpans};
 use crate::span::{Span, right_of};
 use plane_edge::Edge;
 
-/// A place behind `place`. The edges between have no x from `left` on.
+// A place behind `place`. The edges between have no x from `left` on.
 fn past_left(edges: &[Edge], spans: &[Span], place: usize, left: i32) -> usize
     requires spans { AreSpans edges.now (length edges.now) spans.now }
     requires within { place < length edges.now }

@@ -1,6 +1,5 @@
-//! Borders from uses.
+// Borders from uses.
 ghost use Rattle.std.specs.Prelude.{◌≡◌, ◌↔◌, ◌+◌, ◌<◌, ℕ, true, IsTrue, length, IfOk, IfSome, IfNone};
-ghost use Rattle.plane_edge.specs.declared.edge.Edge.{Edge as Line};
 ghost use Rattle.coverage_check.specs.Areas.{is_this};
 ghost use Rattle.coverage_check.specs.Bordering.{IsUseAt, IsSecond, IsBorderOf, IsNoBorder, AreBordersUpTo, AreBordersOf};
 ghost use Rattle.coverage_check.specs.Sharing.{IsShared};
@@ -12,7 +11,7 @@ use agg_base::NoMemory;
 use plane_edge::Edge;
 use std::alloc::Global;
 
-/// The area of the use of that number, where it has the edge.
+// The area of the use of that number, where it has the edge.
 fn area_at(uses: &[Use], at: usize, edge: &Edge) -> Option<u32>
     ensures { (c : ℕ) → (is_this c result ≡ true) ↔ IsUseAt uses.now at (used_by edge.now c) }
 {
@@ -23,7 +22,7 @@ fn area_at(uses: &[Use], at: usize, edge: &Edge) -> Option<u32>
     }
 }
 
-/// Whether the use before that number has the edge.
+// Whether the use before that number has the edge.
 fn is_second(uses: &[Use], at: usize, edge: &Edge) -> bool
     requires { at < length uses.now }
     ensures { IsTrue result ↔ IsSecond uses.now at edge.now }
@@ -31,7 +30,7 @@ fn is_second(uses: &[Use], at: usize, edge: &Edge) -> bool
     at > 0 && area_at(uses, at - 1, edge).is_some()
 }
 
-/// The border that begins at the use of that number, if its edge is not level.
+// The border that begins at the use of that number, if its edge is not level.
 fn border_at(uses: &[Use], at: usize) -> Option<Border>
     requires within { at < length uses.now }
     requires rising { AreRisingUses uses.now }
@@ -50,7 +49,7 @@ fn border_at(uses: &[Use], at: usize) -> Option<Border>
     })
 }
 
-/// The borders that begin at the uses.
+// The borders that begin at the uses.
 fn collect(alloc: Global, uses: &[Use]) -> Result<Vec<Border>, NoMemory>
     requires { AreRisingUses uses.now }
     ensures { IfOk result (λ borders. AreBordersUpTo uses.now (length uses.now) borders.items) }
@@ -67,7 +66,7 @@ fn collect(alloc: Global, uses: &[Use]) -> Result<Vec<Border>, NoMemory>
 /// The edges that are not level, with the one or two areas in which each is odd, in rising order.
 pub fn borders_of(alloc: Global, uses: &[Use]) -> Result<Vec<Border>, NoMemory>
     requires rising { AreRisingUses uses.now }
-    requires few { (e : Line) → ¬ IsShared (IsUsed uses.now) e }
+    requires few { (e : Edge) → ¬ IsShared (IsUsed uses.now) e }
     ensures { IfOk result (λ borders. AreBordersOf uses.now borders.items) }
 {
     collect(alloc, uses)

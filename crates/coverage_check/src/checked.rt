@@ -1,10 +1,11 @@
-//! Checked maps.
+// Checked maps.
 use crate::kept::OddArea;
 use plane_edge::Frame;
 use std::marker::Model;
 
 /// A map whose areas are planar and disjoint, by their odd edges: each area has one at least, and they
-/// are in rising order. There are at most 65,536 areas with at most 2,097,152 odd edges together.
+/// are in rising order. There are at most `AREAS` areas
+/// with at most `STEPS` odd edges together (`agg_base::limits`).
 #[derive(Drop)]
 pub struct Checked {
     areas: Vec<OddArea>,
@@ -13,9 +14,9 @@ pub struct Checked {
 }
 
 impl Model for Checked {
-    ghost use Rattle.coverage_check.specs.Checked.{CheckedMap, IsChecked};
+    ghost use Rattle.coverage_check.specs.Checked.{Checked, IsChecked};
 
-    ghost Value = { CheckedMap };
+    ghost Value = { Checked };
 
     ghost view = { λ c. record { areas = c.areas.items; passed = c.passed; frame = c.frame } };
 
@@ -23,7 +24,6 @@ impl Model for Checked {
 }
 
 ghost use Rattle.std.specs.Prelude.{◌≡◌, ◌≤◌, ◌<◌, ◌+◌, ℕ, List, [], length, get_or};
-ghost use Rattle.plane_edge.specs.declared.edge.Edge.{Edge as Line};
 ghost use Rattle.coverage_check.specs.Checked.{IsChecked};
 ghost use Rattle.coverage_check.specs.Cover.{odd_of};
 ghost use Rattle.coverage_check.specs.Kept.{kept_of, odds_of, classes_of};
@@ -32,9 +32,10 @@ use agg_base::Text;
 use plane_edge::{Coverage, Edge};
 
 impl Checked {
-    /// How many areas there are.
+    /// How many areas there are. The map is planar and disjoint, and within its limits.
     pub fn areas(&self) -> usize
-        ensures { result ≡ length self.now.areas }
+        ensures count { result ≡ length self.now.areas }
+        ensures rules { IsChecked self.now.areas }
     {
         self.areas.len()
     }
@@ -44,7 +45,7 @@ impl Checked {
         requires { area < length self.now.areas }
         ensures { result.now ≡ odd_of (odds_of self.now.areas) area }
     {
-        self.areas[area as usize].odd()
+        self.areas[area as usize].odd_edges()
     }
 
     /// The class text of an area.
@@ -62,18 +63,12 @@ impl Checked {
         self.passed
     }
 
-    /// How the coordinates are written.
+    /// How the coordinates are written. The map is planar and disjoint, and within its limits.
     pub fn frame(&self) -> &Frame
-        ensures { result.now ≡ self.now.frame }
+        ensures value { result.now ≡ self.now.frame }
+        ensures rules { IsChecked self.now.areas }
     {
         &self.frame
-    }
-
-    /// That the map is planar and disjoint, and within its limits.
-    pub fn rules(&self)
-        ensures { IsChecked self.now.areas }
-    {
-        let _ = &self.areas;
     }
 }
 

@@ -1,7 +1,6 @@
-//! The check of a coverage.
+// The check of a coverage.
 ghost use Rattle.std.specs.Prelude.{◌≡◌, ◌≤◌, ◌+◌, ◌-◌, ℕ, All, Contains, length, IfOk, OnOk, IfErr, IfSome, IfNone, IsErrAnd};
-ghost use Rattle.plane_edge.specs.declared.edge.Edge.{Edge as Line};
-ghost use Rattle.plane_edge.specs.declared.spot.Spot.{Spot as Place};
+ghost use Rattle.agg_base.specs.declared.limits.TheConstants.{AREAS};
 ghost use Rattle.plane_strip.specs.Strip.{IsPlanar};
 ghost use Rattle.coverage_check.specs.Checked.{IsChecked};
 ghost use Rattle.coverage_check.specs.Cover.{IsOddIn, IsOddSomewhere, IsPlanarCover, IsDisjointCover, IsOverlap, IsFirstOverlap};
@@ -24,10 +23,10 @@ use crate::shared::first_shared;
 use crate::usage::{Use, uses_of};
 use agg_base::NoMemory;
 use crew_work::Crew;
-use plane_edge::{Coverage, Edge};
+use plane_edge::{Coverage, Edge, Spot};
 use std::alloc::Global;
 
-/// The first place inside two areas. No two of the edges cross, and none is odd in three areas.
+// The first place inside two areas. No two of the edges cross, and none is odd in three areas.
 fn overlap_of(
     alloc: Global,
     areas: &[OddArea],
@@ -38,7 +37,7 @@ fn overlap_of(
     requires used { AreUsesOf (odds_of areas.now) uses.now }
     requires distinct { AreEdgesOf uses.now edges.now }
     requires planar { IsPlanar edges.now }
-    requires few { (e : Line) → ¬ IsShared (IsUsed uses.now) e }
+    requires few { (e : Edge) → ¬ IsShared (IsUsed uses.now) e }
     ensures found { IfOk result (λ r. IfSome r (λ o. IsFirstOverlap (odds_of areas.now) o.a o.b o.spot)) }
     ensures nowhere { IfOk result (λ r. IfNone r (IsDisjointCover (odds_of areas.now))) }
 {
@@ -48,9 +47,9 @@ fn overlap_of(
     first_overlap(alloc, &heights, &borders)
 }
 
-/// The first fault of the areas.
+// The first fault of the areas.
 fn first_fault(alloc: Global, areas: &[OddArea]) -> Result<(), CoverFault>
-    requires few { length areas.now ≤ 65536 }
+    requires few { length areas.now ≤ AREAS }
     requires parts { All IsOddPart areas.now }
     ensures planar { OnOk result (IsPlanarCover (odds_of areas.now)) }
     ensures disjoint { OnOk result (IsDisjointCover (odds_of areas.now)) }
@@ -78,7 +77,7 @@ fn first_fault(alloc: Global, areas: &[OddArea]) -> Result<(), CoverFault>
     }
 }
 
-/// The areas that count, checked.
+// The areas that count, checked.
 fn checked(alloc: Global, coverage: Coverage) -> Result<Checked, CoverFault>
     ensures areas { IfOk result (λ c. c.areas ≡ kept_of coverage.areas.items) }
     ensures passed { IfOk result (λ c. c.passed + length c.areas ≡ coverage.passed + length coverage.areas.items) }
@@ -104,7 +103,7 @@ fn checked(alloc: Global, coverage: Coverage) -> Result<Checked, CoverFault>
 ///
 /// The first that comes of: `Crossing`, where two different odd edges have a point in common that is
 /// not an end of both; `Shared`, where an edge is odd in three areas; `Overlap`, where a point is
-/// inside two areas. `Memory` at any time, where memory is wanting.
+/// inside two areas. `Memory` at any time, where memory runs out.
 pub fn check<W: Crew>(alloc: Global, coverage: Coverage, crew: &W) -> Result<Checked, CoverFault>
     ensures areas { IfOk result (λ c. c.areas ≡ kept_of coverage.areas.items) }
     ensures passed { IfOk result (λ c. c.passed + length c.areas ≡ coverage.passed + length coverage.areas.items) }
@@ -115,11 +114,11 @@ pub fn check<W: Crew>(alloc: Global, coverage: Coverage, crew: &W) -> Result<Che
     ensures sound { let odds = odds_of (kept_of coverage.areas.items) in
         IsPlanarCover odds → IsDisjointCover odds → IfErr result IsMemory }
     ensures crossed { let odds = odds_of (kept_of coverage.areas.items) in
-        (e f : Line) (s : Place) → IsCrossing (IsOddSomewhere odds) e f s → IsErrAnd result IsCrossingOrMemory }
+        (e f : Edge) (s : Spot) → IsCrossing (IsOddSomewhere odds) e f s → IsErrAnd result IsCrossingOrMemory }
     ensures thrice { let odds = odds_of (kept_of coverage.areas.items) in
-        (e : Line) → IsUncrossed odds → IsShared (IsOddIn odds) e → IsErrAnd result IsSharedOrMemory }
+        (e : Edge) → IsUncrossed odds → IsShared (IsOddIn odds) e → IsErrAnd result IsSharedOrMemory }
     ensures twice { let odds = odds_of (kept_of coverage.areas.items) in
-        (a b : ℕ) (s : Place) → IsPlanarCover odds → IsOverlap odds a b s → IsErrAnd result IsOverlapOrMemory }
+        (a b : ℕ) (s : Spot) → IsPlanarCover odds → IsOverlap odds a b s → IsErrAnd result IsOverlapOrMemory }
 {
     let _ = crew;
     checked(alloc, coverage)

@@ -1,4 +1,4 @@
-//! The first two edges that cross.
+// The first two edges that cross.
 ghost use Rattle.std.specs.Prelude.{◌≡◌, ◌≢◌, ◌≤◌, ◌<◌, ◌+◌, ◌&&◌, IsTrue, IfOk, IfSome, IfNone, Contains, length, int_lt};
 ghost use Rattle.std.specs.Int.{int_min, int_max};
 ghost use Rattle.plane_edge.specs.Edges.{is_edge_below, IsRisingEdges};
@@ -42,8 +42,8 @@ pub fn first_crossing(alloc: Global, edges: &[Edge]) -> Result<Option<Crossing>,
     Ok(None)
 }
 
-/// The place of the first later edge that crosses the one at `at`, and the spot where. Only those are
-/// tried that begin no higher than that one ends, and of those beside it only a few.
+// The place of the first later edge that crosses the one at `at`, and the spot where. Only those are
+// tried that begin no higher than that one ends, and of those beside it only a few.
 fn first_partner(edges: &[Edge], spans: &[Span], at: usize) -> Option<(usize, Spot)>
     requires rising { IsRisingEdges edges.now }
     requires spans { AreSpans edges.now (length edges.now) spans.now }
@@ -68,7 +68,7 @@ fn first_partner(edges: &[Edge], spans: &[Span], at: usize) -> Option<(usize, Sp
     None
 }
 
-/// Whether `f` begins higher than `e` ends.
+// Whether `f` begins higher than `e` ends.
 #[inline]
 fn begins_above(f: &Edge, e: &Edge) -> bool
     ensures { result ≡ int_lt e.now.high.y f.now.low.y }
@@ -76,7 +76,7 @@ fn begins_above(f: &Edge, e: &Edge) -> bool
     f.low.y > e.high.y
 }
 
-/// Where the edges meet; the first one is from `left` to `right`.
+// Where the edges meet; the first one is from `left` to `right`.
 #[inline]
 fn meet_across(e: &Edge, f: &Edge, left: i32, right: i32) -> Option<Spot>
     requires differ { e.now ≢ f.now }
@@ -92,7 +92,7 @@ fn meet_across(e: &Edge, f: &Edge, left: i32, right: i32) -> Option<Spot>
     }
 }
 
-/// Whether the edge has an x from `left` to `right`.
+// Whether the edge has an x from `left` to `right`.
 #[inline]
 fn is_across_range(f: &Edge, left: i32, right: i32) -> bool
     ensures { result ≡ is_across f.now left right }

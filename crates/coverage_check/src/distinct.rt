@@ -1,4 +1,4 @@
-//! The distinct edges of uses.
+// The distinct edges of uses.
 ghost use Rattle.std.specs.Prelude.{◌≡◌, map, IfOk};
 ghost use Rattle.coverage_check.specs.Uses.{AreRisingUses, AreEdgesOf};
 
@@ -7,7 +7,7 @@ use agg_base::NoMemory;
 use plane_edge::Edge;
 use std::alloc::Global;
 
-/// The edge of each use.
+// The edge of each use.
 fn used_edges(alloc: Global, uses: &[Use]) -> Result<Vec<Edge>, NoMemory>
     ensures { IfOk result (λ edges. edges.items ≡ map (λ u. u.edge) uses.now) }
 {

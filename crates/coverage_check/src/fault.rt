@@ -1,4 +1,4 @@
-//! The faults of a coverage.
+// The faults of a coverage.
 ghost use Rattle.std.specs.Prelude.{◌≡◌};
 ghost use Rattle.coverage_check.specs.declared.fault.CoverFault.TheVariants.{Memory};
 
@@ -18,7 +18,7 @@ pub enum CoverFault {
     /// A point is inside two areas: the leftmost one on the lowest line halfway between two neighbouring heights of ends that has one, and the two least areas that it is inside. Comes only where no edges cross and no edge is odd in three areas.
     #[error("areas {a} and {b} overlap")]
     Overlap { a: u32, b: u32, spot: Spot },
-    /// Memory was wanting.
+    /// Memory ran out.
     #[error("out of memory")]
     Memory,
 }

@@ -1,4 +1,4 @@
-//! The heights at which edges end.
+// The heights at which edges end.
 ghost use Rattle.std.specs.Prelude.{◌≡◌, ◌↔◌, ℤ, Contains, IfOk};
 ghost use Rattle.std.specs.List.Sorted.{IsStrictlySortedBy};
 ghost use Rattle.std.specs.Ordering.{int_cmp};
@@ -8,7 +8,7 @@ use agg_base::NoMemory;
 use plane_edge::Edge;
 use std::alloc::Global;
 
-/// The heights of both ends of the edges.
+// The heights of both ends of the edges.
 fn end_heights(alloc: Global, edges: &[Edge]) -> Result<Vec<i32>, NoMemory>
     ensures { IfOk result (λ hs. hs.items ≡ end_heights_of edges.now) }
 {
@@ -20,7 +20,7 @@ fn end_heights(alloc: Global, edges: &[Edge]) -> Result<Vec<i32>, NoMemory>
     Ok(heights)
 }
 
-/// Sorts the heights, and keeps each once.
+// Sorts the heights, and keeps each once.
 fn sort_distinct(heights: &mut Vec<i32>)
     ensures rising { IsStrictlySortedBy int_cmp heights.new.items }
     ensures same { (y : ℤ) → Contains heights.new.items y ↔ Contains heights.old.items y }

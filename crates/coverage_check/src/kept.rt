@@ -1,4 +1,4 @@
-//! The areas that count.
+// The areas that count.
 use agg_base::Text;
 use plane_edge::Edge;
 use std::marker::Model;
@@ -7,19 +7,19 @@ use std::marker::Model;
 #[derive(Drop)]
 pub struct OddArea {
     class: Text,
-    odd: Vec<Edge>,
+    odd_edges: Vec<Edge>,
 }
 
 impl Model for OddArea {
-    ghost use Rattle.plane_edge.specs.Rings.{Outline};
+    ghost use Rattle.coverage_check.specs.Kept.{OddArea};
 
-    ghost Value = { Outline };
+    ghost Value = { OddArea };
 
     ghost use Rattle.plane_edge.specs.Edges.{HaveEvenEnds, IsRisingEdges};
 
-    ghost view = { λ a. record { class = a.class; steps = a.odd.items } };
+    ghost view = { λ a. record { class = a.class; odd_edges = a.odd_edges.items } };
 
-    ghost invariant = { λ a. IsRisingEdges a.odd.items × HaveEvenEnds a.odd.items };
+    ghost invariant = { λ a. IsRisingEdges a.odd_edges.items × HaveEvenEnds a.odd_edges.items };
 }
 
 ghost use Rattle.std.specs.Prelude.{◌≡◌, All, IfOk};
@@ -32,13 +32,13 @@ use plane_edge::{Area, odd};
 use std::alloc::Global;
 
 impl OddArea {
-    /// The area with its odd edges.
+    // The area with its odd edges.
     fn of(alloc: Global, area: &Area) -> Result<OddArea, NoMemory>
         ensures { IfOk result (λ kept. kept ≡ odd_part area.now) }
     {
-        let odd = odd(alloc, area)?;
+        let odd_edges = odd(alloc, area)?;
         let class = area.class().copy(alloc)?;
-        Ok(OddArea { class, odd })
+        Ok(OddArea { class, odd_edges })
     }
 
     /// The class text.
@@ -49,21 +49,21 @@ impl OddArea {
     }
 
     /// The odd edges, in rising order.
-    pub fn odd(&self) -> &[Edge]
-        ensures value { result.now ≡ self.now.steps }
-        ensures rising { IsRisingEdges self.now.steps }
-        ensures even { HaveEvenEnds self.now.steps }
+    pub fn odd_edges(&self) -> &[Edge]
+        ensures value { result.now ≡ self.now.odd_edges }
+        ensures rising { IsRisingEdges self.now.odd_edges }
+        ensures even { HaveEvenEnds self.now.odd_edges }
     {
-        &self.odd
+        &self.odd_edges
     }
 
-    /// Whether there is an odd edge.
+    // Whether there is an odd edge.
     fn has_edge(&self) -> bool
         ensures value { result ≡ has_edge self.now }
-        ensures rising { IsRisingEdges self.now.steps }
-        ensures even { HaveEvenEnds self.now.steps }
+        ensures rising { IsRisingEdges self.now.odd_edges }
+        ensures even { HaveEvenEnds self.now.odd_edges }
     {
-        !self.odd.is_empty()
+        !self.odd_edges.is_empty()
     }
 }
 

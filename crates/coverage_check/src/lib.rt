@@ -22,7 +22,7 @@ mod walk;
 pub use checked::Checked;
 pub use cover::check;
 pub use fault::CoverFault;
-pub use laws::odd_law;
+pub use laws::{odd_law, one_fault_law};
 
 #[cfg(test)]
 mod tests;

@@ -1,4 +1,4 @@
-//! The first place inside two areas.
+// The first place inside two areas.
 ghost use Rattle.std.specs.Prelude.{◌<ℤ◌, pos, All, length, IfOk, IfSome, IfNone, ◌-◌};
 ghost use Rattle.plane_edge.specs.Coordinate.{IsCoordinate};
 ghost use Rattle.plane_edge.specs.Plane.{Same, IsLowest};
@@ -21,7 +21,7 @@ pub struct Overlap {
     pub spot: Spot,
 }
 
-/// Where the border is in the middle of two heights, in lowest terms.
+// Where the border is in the middle of two heights, in lowest terms.
 fn middle_spot(border: &Border, low: i32, high: i32) -> Spot
     requires low_in { IsCoordinate low }
     requires high_in { IsCoordinate high }

@@ -1,4 +1,4 @@
-//! The least edge that is odd in three areas.
+// The least edge that is odd in three areas.
 ghost use Rattle.std.specs.Prelude.{◌≡◌, IfSome, IfNone};
 ghost use Rattle.plane_edge.specs.Edges.{is_same_edge};
 ghost use Rattle.coverage_check.specs.Sharing.{IsShared, IsFirstShared};
@@ -21,7 +21,7 @@ pub fn first_shared(uses: &[Use]) -> Option<Edge>
     None
 }
 
-/// Whether the edges are the same.
+// Whether the edges are the same.
 fn is_same(a: &Edge, b: &Edge) -> bool
     ensures { result ≡ is_same_edge a.now b.now }
 {

@@ -1,4 +1,4 @@
-//! How far to the left and to the right neighbours in a list of edges go.
+// How far to the left and to the right neighbours in a list of edges go.
 ghost use Rattle.std.specs.Prelude.{◌≡◌, ◌+◌, ◌<◌, length, IfOk};
 ghost use Rattle.std.specs.Int.{int_min, int_max};
 ghost use Rattle.coverage_check.specs.Partners.{left_of, right_of};
@@ -34,7 +34,7 @@ pub fn right_of(edge: &Edge) -> i32
     edge.low.x.max(edge.high.x)
 }
 
-/// The span of the edge at `at` alone.
+// The span of the edge at `at` alone.
 fn alone(edges: &[Edge], at: usize) -> Span
     requires { at < length edges.now }
     ensures { IsSpan edges.now at result }
@@ -48,7 +48,7 @@ fn alone(edges: &[Edge], at: usize) -> Span
     }
 }
 
-/// The span of the edge at `at + 1`, which takes in the edges before it that begin at its height.
+// The span of the edge at `at + 1`, which takes in the edges before it that begin at its height.
 fn grown_back(edges: &[Edge], at: usize, before: &Span) -> Span
     requires within { at + 1 < length edges.now }
     requires before { IsSpan edges.now at before.now }
@@ -65,7 +65,7 @@ fn grown_back(edges: &[Edge], at: usize, before: &Span) -> Span
     }
 }
 
-/// The span of the edge at `at`, which takes in the edges behind it that begin at its height.
+// The span of the edge at `at`, which takes in the edges behind it that begin at its height.
 fn grown_on(edges: &[Edge], at: usize, own: &Span, behind: &Span) -> Span
     requires within { at + 1 < length edges.now }
     requires own { IsSpan edges.now at own.now }
@@ -82,7 +82,7 @@ fn grown_on(edges: &[Edge], at: usize, own: &Span, behind: &Span) -> Span
     }
 }
 
-/// The spans of the edges, without the edges behind each.
+// The spans of the edges, without the edges behind each.
 fn spans_back(alloc: Global, edges: &[Edge]) -> Result<Vec<Span>, NoMemory>
     ensures { IfOk result (λ spans. AreSpans edges.now (length edges.now) spans.items) }
 {
@@ -98,7 +98,7 @@ fn spans_back(alloc: Global, edges: &[Edge]) -> Result<Vec<Span>, NoMemory>
     Ok(spans)
 }
 
-/// Takes the edges behind each into the spans.
+// Takes the edges behind each into the spans.
 fn grow_on(edges: &[Edge], spans: &mut [Span])
     requires { AreSpans edges.now (length edges.now) spans.old }
     ensures { AreSpans edges.now (length edges.now) spans.new }

@@ -1,4 +1,4 @@
-//! The borders of one strip between two heights, from left to right.
+// The borders of one strip between two heights, from left to right.
 ghost use Rattle.std.specs.Prelude.{◌≡◌, ◌≤◌, ◌<◌, ◌^◌, ◌+ℤ◌, ◌-ℤ◌, ◌*ℤ◌, ◌<ℤ◌, ℤ, pos, unsigned_abs, length, filter, int_lt, IfOk, OnOk};
 ghost use Rattle.std.specs.List.Sorted.{IsPermutation, IsSortedBy};
 ghost use Rattle.std.specs.Ordering.{is_lt};
@@ -39,7 +39,7 @@ pub fn twice_rise(edge: &Edge) -> i128
     gap(edge.high.y, edge.low.y) * 2
 }
 
-/// Where the edge passes the mid-line, times twice its rise.
+// Where the edge passes the mid-line, times twice its rise.
 fn place_at(edge: &Edge, twice: i128) -> i128
     requires { unsigned_abs twice ≤ 2 ^ 31 }
     ensures value { result ≡ place edge.now twice (pos 2) }
@@ -48,7 +48,7 @@ fn place_at(edge: &Edge, twice: i128) -> i128
     spot_along(edge, twice_above(edge, twice), twice_rise(edge)).x
 }
 
-/// A place times a rise.
+// A place times a rise.
 fn product(place: i128, rise: i128) -> i128
     requires place_within { unsigned_abs place ≤ 2 ^ 64 }
     requires rise_within { unsigned_abs rise ≤ 2 ^ 31 }
@@ -57,7 +57,7 @@ fn product(place: i128, rise: i128) -> i128
     place * rise
 }
 
-/// Which of two borders passes the mid-line further left.
+// Which of two borders passes the mid-line further left.
 fn compare_at(b: &Border, c: &Border, twice: i128) -> Ordering
     requires { unsigned_abs twice ≤ 2 ^ 31 }
     ensures { is_lt result ≡ is_left_of twice b.now c.now }
@@ -67,7 +67,7 @@ fn compare_at(b: &Border, c: &Border, twice: i128) -> Ordering
     left.cmp(&right)
 }
 
-/// Sorts the borders from left to right along the mid-line.
+// Sorts the borders from left to right along the mid-line.
 fn sort_along(active: &mut Vec<Border>, twice: i128)
     requires { unsigned_abs twice ≤ 2 ^ 31 }
     ensures permutation { IsPermutation active.old.items active.new.items }
@@ -76,14 +76,14 @@ fn sort_along(active: &mut Vec<Border>, twice: i128)
     active.sort_unstable_by(|b, c| compare_at(b, c, twice));
 }
 
-/// Drops the borders that end below `high`.
+// Drops the borders that end below `high`.
 fn drop_ended(active: &mut Vec<Border>, high: i32)
     ensures { active.new.items ≡ filter (is_up_to high) active.old.items }
 {
     active.retain(|border| high <= border.edge.high.y);
 }
 
-/// Appends the borders from `from` on that begin at `low` or below and go up to `high`, and gives the number of the first that begins higher.
+// Appends the borders from `from` on that begin at `low` or below and go up to `high`, and gives the number of the first that begins higher.
 fn take_up(
     active: &mut Vec<Border>,
     borders: &[Border],

@@ -1,7 +1,4 @@
-ghost use Rattle.std.specs.Prelude.{◌≤◌, IsTrue};
-ghost use Rattle.plane_edge.specs.Rings.{step_count};
-
-use super::{Checked, CoverFault, check, odd_law};
+use super::{Checked, CoverFault, check, odd_law, one_fault_law};
 use agg_base::{NoMemory, Text};
 use crew_work::Alone;
 use plane_edge::{Area, Coverage, Edge, Frame, Point, Spot};
@@ -9,17 +6,17 @@ use std::alloc::Global;
 use std::process::Abort;
 use std::test::Fail;
 
-/// A point within the limit.
+// A point within the limit.
 fn point(rt: &impl Abort, [x, y]: [i64; 2]) -> Point {
     Point::of(x, y).expect(rt, "a coordinate past the limit")
 }
 
-/// The edge between two points.
+// The edge between two points.
 fn edge(rt: &impl Abort, a: [i64; 2], b: [i64; 2]) -> Edge {
     Edge::of(point(rt, a), point(rt, b)).expect(rt, "equal ends")
 }
 
-/// The area of one ring, with the class `1`.
+// The area of one ring, with the class `1`.
 fn area(rt: &impl Abort, alloc: Global, corners: &[[i64; 2]]) -> Result<Area, Fail> {
     let mut ring = Vec::new(alloc);
     for corner in corners {
@@ -30,22 +27,7 @@ fn area(rt: &impl Abort, alloc: Global, corners: &[[i64; 2]]) -> Result<Area, Fa
     Ok(Area::of_rings(alloc, Text::of(alloc, "1")?, &rings)?)
 }
 
-/// Whether the areas have few enough steps for a coverage.
-fn are_few(areas: &[Area]) -> bool
-    ensures { IsTrue result → step_count areas.now ≤ 2097152 }
-{
-    let mut total = 0;
-    for area in areas {
-        let steps = area.steps().len();
-        if steps > 2_097_152 - total {
-            return false;
-        }
-        total += steps;
-    }
-    true
-}
-
-/// What the check answers to areas of one ring each.
+// What the check answers to areas of one ring each.
 fn checked(
     rt: &impl Abort,
     alloc: Global,
@@ -55,18 +37,11 @@ fn checked(
     for corners in shells {
         areas.push(area(rt, alloc, corners)?)?;
     }
-    assert!(rt; areas.len() <= 65_536);
-    let few = are_few(&areas);
-    assert!(rt; few);
-    let coverage = Coverage {
-        areas,
-        passed: 0,
-        frame: Frame::Plain,
-    };
+    let coverage = Coverage::of(areas, 0, Frame::Plain).expect(rt, "too many areas or steps");
     Ok(check(alloc, coverage, &Alone))
 }
 
-/// The fault of areas of one ring each.
+// The fault of areas of one ring each.
 fn fault(
     rt: &impl Abort,
     alloc: Global,
@@ -186,12 +161,12 @@ fn an_area_without_an_odd_edge_is_passed_over(rt: HostRuntime) -> Result<(), Fai
     assert_eq!(rt; map.odd(0)[0], edge(&rt, [0, 0], [1, 0]));
     assert_eq!(rt; map.class(0).as_str(), "1");
     assert!(rt; matches!(map.frame(), Frame::Plain));
-    map.rules();
     odd_law();
+    one_fault_law();
     Ok(())
 }
 
-/// Takes what another thread may hold.
+// Takes what another thread may hold.
 fn is_shared<T: Send + Sync>(value: &T) {
     let _ = value;
 }

@@ -19,7 +19,7 @@ pub struct Place {
     pub b: u32,
 }
 
-/// From inside `area`, behind a border of one area.
+// From inside `area`, behind a border of one area.
 fn past_one(area: u32, first: u32) -> Passed
     ensures { Tells (λ c. differ (is_this c (Some area)) (eqb c first)) result }
 {
@@ -32,7 +32,7 @@ fn past_one(area: u32, first: u32) -> Passed
     }
 }
 
-/// From inside `area`, behind a border of two areas.
+// From inside `area`, behind a border of two areas.
 fn past_two(area: u32, first: u32, second: u32) -> Passed
     requires { first < second }
     ensures { Tells (λ c. differ (is_this c (Some area)) (eqb c first || eqb c second)) result }
@@ -50,7 +50,7 @@ fn past_two(area: u32, first: u32, second: u32) -> Passed
     }
 }
 
-/// Behind the border, from inside `within`.
+// Behind the border, from inside `within`.
 fn past(within: Option<u32>, border: &Border) -> Passed
     ensures { Tells (λ c. differ (is_this c within) (is_of c border.now)) result }
 {

@@ -1,10 +1,10 @@
-//! Rows from below upwards.
+// Rows from below upwards.
 ghost use Rattle.std.specs.Prelude.{AllPairs};
 ghost use Rattle.edge_rows.specs.Banks.{IsBefore};
 
 use crate::row::Row;
 
-/// Rows of which neither the low ends nor the tops fall.
+/// Rows of which neither the low heights nor the tops fall.
 #[derive(Drop)]
 pub struct Bank {
     /// The rows.

@@ -1,151 +1,161 @@
-//! Edges laid out in rows, and rows in banks.
-ghost use Rattle.std.specs.Prelude.{◌≡◌, ◌↔◌, ◌≤ℤ◌, ◌&&◌, IsTrue, All, [], ◌∷◌, ◌++◌, flat_map, int_le, IfOk};
+// Pieces laid out in rows, and rows in banks.
+ghost use Rattle.std.specs.Prelude.{◌≡◌, ◌↔◌, ◌≤ℤ◌, ◌&&◌, not, IsTrue, All, [], ◌∷◌, ◌++◌, flat_map, int_le, int_lt, pos, IfOk};
 ghost use Rattle.std.specs.Ordering.{int_eq};
+ghost use Rattle.plane_edge.specs.Coordinate.{IsCoordinate};
+ghost use Rattle.plane_strip.specs.Strip.{lead};
 ghost use Rattle.edge_rows.specs.Beside.{IsBeside, is_beside as beside};
-ghost use Rattle.edge_rows.specs.Banks.{edges_of_row};
-ghost use Rattle.edge_rows.specs.Whole.{edges_of_bank};
+ghost use Rattle.edge_rows.specs.Banks.{pieces_of_row};
+ghost use Rattle.edge_rows.specs.Whole.{pieces_of_bank};
 
 use crate::bank::Bank;
+use crate::piece::Piece;
 use crate::row::Row;
-use crate::sorting::rank;
+use crate::sides::is_back_at;
 use agg_base::NoMemory;
-use plane_edge::{Edge, Point, are_equal};
+use plane_edge::are_equal;
 use std::alloc::Global;
 
-/// A row of one edge.
-fn row_of(alloc: Global, edge: Edge) -> Result<Row, NoMemory>
-    ensures { IfOk result (λ row. row.edges.items ≡ edge ∷ []) }
+// A row of one piece.
+fn row_of(alloc: Global, piece: Piece) -> Result<Row, NoMemory>
+    ensures { IfOk result (λ row. row.pieces.items ≡ piece ∷ []) }
 {
-    let mut edges = Vec::new(alloc);
-    edges.push(edge)?;
+    let mut pieces = Vec::new(alloc);
+    pieces.push(piece)?;
     Ok(Row {
-        edges,
-        last: edge,
-        top: edge.high,
+        pieces,
+        last: piece,
+        top: piece.high,
     })
 }
 
-/// The row with one more edge.
-fn longer(row: Row, edge: Edge) -> Result<Row, NoMemory>
-    requires { IsBeside row.last edge }
-    ensures { IfOk result (λ r. r.edges.items ≡ row.edges.items ++ edge ∷ []) }
+// The row with one more piece.
+fn longer(row: Row, piece: Piece) -> Result<Row, NoMemory>
+    requires { IsBeside row.last piece }
+    ensures { IfOk result (λ r. r.pieces.items ≡ row.pieces.items ++ piece ∷ []) }
 {
     let Row {
-        mut edges,
+        mut pieces,
         last: _,
         top,
     } = row;
-    edges.push(edge)?;
+    pieces.push(piece)?;
     Ok(Row {
-        edges,
-        last: edge,
+        pieces,
+        last: piece,
         top,
     })
 }
 
-/// Whether no pair of numbers falls.
-fn are_rising(a: i32, b: i32, c: i32, d: i32) -> bool
-    ensures { result ≡ int_le a b && int_le c d }
-{
-    a <= b && c <= d
-}
-
-/// Whether both hold.
+// Whether both hold.
 fn are_both(a: bool, b: bool) -> bool
     ensures { result ≡ a && b }
 {
     a && b
 }
 
-/// Whether the edges are between the same heights.
-fn are_level(e: &Edge, f: &Edge) -> bool
-    ensures { result ≡ int_eq e.now.low.y f.now.low.y && int_eq e.now.high.y f.now.high.y }
+// Whether neither holds.
+fn is_neither(a: bool, b: bool) -> bool
+    ensures { result ≡ not a && not b }
 {
-    are_equal(e.low.y, e.high.y, f.low.y, f.high.y)
+    !a && !b
 }
 
-/// Whether neither end of the second edge is further left.
-fn is_right(e: &Edge, f: &Edge) -> bool
-    ensures { result ≡ int_le e.now.low.x f.now.low.x && int_le e.now.high.x f.now.high.x }
+// Whether the pieces are between the same heights.
+fn are_level(p: &Piece, q: &Piece) -> bool
+    ensures { result ≡ int_eq p.now.low q.now.low && int_eq p.now.high q.now.high }
 {
-    are_rising(e.low.x, f.low.x, e.high.x, f.high.x)
+    are_equal(p.low, p.high, q.low, q.high)
 }
 
-/// The test of `is_beside`.
-fn test_beside(e: &Edge, f: &Edge) -> bool
-    ensures { result ≡ beside e.now f.now }
+// Whether the second piece is not further left at the heights of the first.
+fn is_right(p: &Piece, q: &Piece) -> bool
+    ensures { result ≡ not (int_lt (pos 0) (lead p.now.edge q.now.edge p.now.low (pos 1))) && not (int_lt (pos 0) (lead p.now.edge q.now.edge p.now.high (pos 1))) }
 {
-    are_both(are_level(e, f), is_right(e, f))
+    let is_back_below = is_back_at(&p.edge, &q.edge, p.low);
+    let is_back_above = is_back_at(&p.edge, &q.edge, p.high);
+    is_neither(is_back_below, is_back_above)
 }
 
-/// Whether the second edge is between the heights of the first, and neither end is further left.
+// The test of `is_beside`.
+fn are_beside(p: &Piece, q: &Piece) -> bool
+    ensures { result ≡ beside p.now q.now }
+{
+    are_both(are_level(p, q), is_right(p, q))
+}
+
+// Whether the second piece is between the heights of the first, and nowhere further left.
 #[tactic(auto, using(crate::proofs::RowLemmas::beside_test))]
-fn is_beside(e: &Edge, f: &Edge) -> bool
-    ensures { IsTrue result ↔ IsBeside e.now f.now }
+fn is_beside(p: &Piece, q: &Piece) -> bool
+    ensures { IsTrue result ↔ IsBeside p.now q.now }
 {
-    test_beside(e, f)
+    are_beside(p, q)
 }
 
-/// The row to go on with: the same where the edge fits into it, else a new one, and `rows` takes the old one.
-fn next_row(alloc: Global, rows: &mut Vec<Row>, row: Row, edge: Edge) -> Result<Row, NoMemory>
-    ensures { IfOk result (λ r. flat_map edges_of_row rows.new.items ++ r.edges.items ≡ (flat_map edges_of_row rows.old.items ++ row.edges.items) ++ edge ∷ []) }
+// The row to go on with: the same where the piece fits into it, else a new one, and `rows` takes the old one.
+fn next_row(alloc: Global, rows: &mut Vec<Row>, row: Row, piece: Piece) -> Result<Row, NoMemory>
+    ensures { IfOk result (λ r. flat_map pieces_of_row rows.new.items ++ r.pieces.items ≡ (flat_map pieces_of_row rows.old.items ++ row.pieces.items) ++ piece ∷ []) }
 {
-    if is_beside(&row.last, &edge) {
-        longer(row, edge)
+    if is_beside(&row.last, &piece) {
+        longer(row, piece)
     } else {
         rows.push(row)?;
-        row_of(alloc, edge)
+        row_of(alloc, piece)
     }
 }
 
-/// The edges in rows, in their order.
-pub fn rows_of(alloc: Global, edges: &[Edge]) -> Result<Vec<Row>, NoMemory>
-    ensures { IfOk result (λ rows. flat_map edges_of_row rows.items ≡ edges.now) }
+/// The pieces in rows, in their order.
+pub fn rows_of(alloc: Global, pieces: &[Piece]) -> Result<Vec<Row>, NoMemory>
+    ensures { IfOk result (λ rows. flat_map pieces_of_row rows.items ≡ pieces.now) }
 {
     let mut rows = Vec::new(alloc);
-    let [first, rest @ ..] = edges else {
+    let [first, rest @ ..] = pieces else {
         return Ok(rows);
     };
     let mut row = row_of(alloc, *first)?;
-    for edge in rest {
-        row = next_row(alloc, &mut rows, row, *edge)?;
+    for piece in rest {
+        row = next_row(alloc, &mut rows, row, *piece)?;
     }
     rows.push(row)?;
     Ok(rows)
 }
 
-/// The higher of two points.
-fn higher(p: Point, q: Point) -> Point
-    ensures first { p.y ≤ℤ result.y }
-    ensures second { q.y ≤ℤ result.y }
+// The greater of two heights.
+fn higher(height: i32, other: i32) -> i32
+    requires height_in { IsCoordinate height }
+    requires other_in { IsCoordinate other }
+    ensures first { height ≤ℤ result }
+    ensures second { other ≤ℤ result }
+    ensures within { IsCoordinate result }
 {
-    if p.y < q.y { q } else { p }
+    if height < other { other } else { height }
 }
 
-/// Whether the first edge does not begin above the second.
-fn is_not_higher(e: &Edge, f: &Edge) -> bool
-    ensures { result ≡ int_le e.now.low.y f.now.low.y }
+// Whether the second piece does not begin below the first.
+fn is_not_lower(p: &Piece, q: &Piece) -> bool
+    ensures { result ≡ int_le p.now.low q.now.low }
 {
-    e.low.y <= f.low.y
+    p.low <= q.low
 }
 
-/// Whether the row may follow those of the bank: it is of like height, and does not begin below the last.
+// Whether the row may follow those of the bank: it is of the level of the last one, and does not begin below it.
 fn may_follow(bank: &Bank, row: &Row) -> bool
-    ensures { IsTrue result → All (λ r. r.last.low.y ≤ℤ row.now.last.low.y) bank.now.rows.items }
+    ensures { IsTrue result → All (λ r. r.last.low ≤ℤ row.now.last.low) bank.now.rows.items }
 {
     match bank.rows.last() {
         Some(last) => {
-            let is_alike = rank(&last.last) == rank(&row.last);
-            are_both(is_alike, is_not_higher(&last.last, &row.last))
+            let is_alike = last.last.level == row.last.level;
+            are_both(is_alike, is_not_lower(&last.last, &row.last))
         }
         None => true,
     }
 }
 
-/// A point at the height of `top` or above, and at the top of each row of the bank or above.
-fn top_over(bank: &Bank, top: Point) -> Point
-    ensures own { top.y ≤ℤ result.y }
-    ensures others { All (λ r. r.top.y ≤ℤ result.y) bank.now.rows.items }
+// A height not below `top` and the tops of the bank.
+fn top_over(bank: &Bank, top: i32) -> i32
+    requires { IsCoordinate top }
+    ensures own { top ≤ℤ result }
+    ensures others { All (λ r. r.top ≤ℤ result) bank.now.rows.items }
+    ensures within { IsCoordinate result }
 {
     match bank.rows.last() {
         Some(last) => higher(top, last.top),
@@ -153,29 +163,29 @@ fn top_over(bank: &Bank, top: Point) -> Point
     }
 }
 
-/// The row, with a top that is not below those of the bank.
-fn raised(bank: &Bank, row: Row) -> Row
-    ensures edges { result.edges.items ≡ row.edges.items }
+// The row, with a top that is not below those of the bank.
+fn raise(bank: &Bank, row: Row) -> Row
+    ensures pieces { result.pieces.items ≡ row.pieces.items }
     ensures last { result.last ≡ row.last }
-    ensures tops { All (λ r. r.top.y ≤ℤ result.top.y) bank.now.rows.items }
+    ensures tops { All (λ r. r.top ≤ℤ result.top) bank.now.rows.items }
 {
-    let Row { edges, last, top } = row;
+    let Row { pieces, last, top } = row;
     let top = top_over(bank, top);
-    Row { edges, last, top }
+    Row { pieces, last, top }
 }
 
-/// The bank with one more row.
+// The bank with one more row.
 fn taller(bank: Bank, row: Row) -> Result<Bank, NoMemory>
-    requires { All (λ r. r.last.low.y ≤ℤ row.last.low.y) bank.rows.items }
-    ensures { IfOk result (λ b. edges_of_bank b ≡ edges_of_bank bank ++ row.edges.items) }
+    requires { All (λ r. r.last.low ≤ℤ row.last.low) bank.rows.items }
+    ensures { IfOk result (λ b. pieces_of_bank b ≡ pieces_of_bank bank ++ row.pieces.items) }
 {
-    let row = raised(&bank, row);
+    let row = raise(&bank, row);
     let Bank { mut rows } = bank;
     rows.push(row)?;
     Ok(Bank { rows })
 }
 
-/// A bank of no row.
+// A bank of no row.
 fn no_bank(alloc: Global) -> Bank
     ensures { result.rows.items ≡ [] }
 {
@@ -184,9 +194,9 @@ fn no_bank(alloc: Global) -> Bank
     }
 }
 
-/// The bank to go on with: the same where the row may follow, else a new one, and `banks` takes the old one.
+// The bank to go on with: the same where the row may follow, else a new one, and `banks` takes the old one.
 fn next_bank(alloc: Global, banks: &mut Vec<Bank>, bank: Bank, row: Row) -> Result<Bank, NoMemory>
-    ensures { IfOk result (λ b. flat_map edges_of_bank banks.new.items ++ edges_of_bank b ≡ (flat_map edges_of_bank banks.old.items ++ edges_of_bank bank) ++ row.edges.items) }
+    ensures { IfOk result (λ b. flat_map pieces_of_bank banks.new.items ++ pieces_of_bank b ≡ (flat_map pieces_of_bank banks.old.items ++ pieces_of_bank bank) ++ row.pieces.items) }
 {
     if may_follow(&bank, &row) {
         taller(bank, row)
@@ -198,7 +208,7 @@ fn next_bank(alloc: Global, banks: &mut Vec<Bank>, bank: Bank, row: Row) -> Resu
 
 /// The rows in banks, in their order.
 pub fn banks_of(alloc: Global, rows: Vec<Row>) -> Result<Vec<Bank>, NoMemory>
-    ensures { IfOk result (λ banks. flat_map edges_of_bank banks.items ≡ flat_map edges_of_row rows.items) }
+    ensures { IfOk result (λ banks. flat_map pieces_of_bank banks.items ≡ flat_map pieces_of_row rows.items) }
 {
     let mut banks = Vec::new(alloc);
     let mut bank = no_bank(alloc);

@@ -5,9 +5,12 @@
 
 mod asking;
 mod bank;
+mod cutting;
 mod laying;
+mod piece;
 mod row;
 mod rows;
+mod sides;
 mod sorting;
 
 pub use rows::EdgeRows;

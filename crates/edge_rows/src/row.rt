@@ -1,16 +1,18 @@
-//! Edges between two heights.
+// Pieces between two heights.
+ghost use Rattle.plane_edge.specs.Coordinate.{IsCoordinate};
 ghost use Rattle.edge_rows.specs.Beside.{IsRow};
 
-use plane_edge::{Edge, Point};
+use crate::piece::Piece;
 
-/// Edges between the same two heights, from left to right.
+/// Pieces between the same two heights, from left to right.
 #[derive(Drop)]
 pub struct Row {
-    /// The edges.
-    pub edges: Vec<Edge>,
+    /// The pieces.
+    pub pieces: Vec<Piece>,
     /// The last of them.
-    pub last: Edge,
-    /// A point at the height of their high ends or above.
-    pub top: Point,
-    ghost is_row: { IsRow edges.items last top },
+    pub last: Piece,
+    /// The height of their upper ends or above.
+    pub top: i32,
+    ghost is_row: { IsRow pieces.items last top },
+    ghost top_in: { IsCoordinate top },
 }

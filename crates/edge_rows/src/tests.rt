@@ -4,7 +4,7 @@ use std::alloc::Global;
 use std::process::Abort;
 use std::test::Fail;
 
-/// The edges of a ring.
+// The edges of a ring.
 fn push_ring(
     rt: &impl Abort,
     edges: &mut Vec<Edge>,
@@ -23,7 +23,7 @@ fn push_ring(
     Ok(())
 }
 
-/// A square from (0, 0) to (6, 6) with a hole from (2, 2) to (4, 4), and a triangle right of it.
+// A square from (0, 0) to (6, 6) with a hole from (2, 2) to (4, 4), and a triangle right of it.
 fn square_and_triangle(rt: &impl Abort, alloc: Global) -> Result<EdgeRows, Fail> {
     let mut edges = Vec::new(alloc);
     push_ring(rt, &mut edges, [0, 0], &[[6, 0], [6, 6], [0, 6]])?;
@@ -32,7 +32,7 @@ fn square_and_triangle(rt: &impl Abort, alloc: Global) -> Result<EdgeRows, Fail>
     Ok(EdgeRows::of(alloc, &edges)?)
 }
 
-/// Whether the point (x/m, y/m) is inside.
+// Whether the point (x/m, y/m) is inside.
 fn is_inside(rt: &impl Abort, rows: &EdgeRows, x: i32, y: i32, m: u8) -> bool {
     assert!(rt; m >= 1);
     let spot = Spot {
@@ -59,7 +59,7 @@ fn spots_are_inside_or_not(rt: HostRuntime) -> Result<(), Fail> {
     Ok(())
 }
 
-/// Takes what another thread may hold.
+// Takes what another thread may hold.
 fn is_shared<T: Send + Sync>(value: &T) {
     let _ = value;
 }

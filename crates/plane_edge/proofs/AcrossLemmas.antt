@@ -3,7 +3,7 @@ use Rattle.std.proofs.Common.{◌≡◌, ◌⊎◌, inl, inr, refl, ◌∙◌, a
 use Rattle.std.proofs.lemmas.Int.{ints}
 use Rattle.plane_edge.specs.declared.edge.Edge.{Edge}
 use Rattle.plane_edge.specs.declared.spot.Spot.{Spot}
-use Rattle.plane_edge.specs.Plane.{IsEnd, Same, IsMeeting, run, rise, turn, offset, along, parts_meet}
+use Rattle.plane_edge.specs.Plane.{IsEnd, Same, IsMeeting, run, rise, turn, offset, along, are_meeting_parts}
 use Rattle.plane_edge.specs.Plane.IsEnd.{at_low, at_high}
 use Rattle.whole_ring.proofs.Laws.{*ℤ_comm, zero-*ℤ}
 use Rattle.whole_ring.proofs.Ring.{ring, var, ◌⊕◌, ◌⊖◌, ◌⊗◌}
@@ -68,19 +68,19 @@ same_point e f s = record {
 }
 
 -- ---- the test
-parts_true : (n k m : ℤ) → parts_meet n k m ≡ true → (pos 0 ≤ℤ n) × (n ≤ℤ m) × (pos 0 ≤ℤ k) × (k ≤ℤ m)
+parts_true : (n k m : ℤ) → are_meeting_parts n k m ≡ true → (pos 0 ≤ℤ n) × (n ≤ℤ m) × (pos 0 ≤ℤ k) × (k ≤ℤ m)
 parts_true n k m h = grind (arith, ints)
 
-parts_apart : (n k m : ℤ) → parts_meet n k m ≡ true → (n ≡ pos 0) ⊎ (n ≡ m) → (k ≡ pos 0) ⊎ (k ≡ m) → ⊥
+parts_apart : (n k m : ℤ) → are_meeting_parts n k m ≡ true → (n ≡ pos 0) ⊎ (n ≡ m) → (k ≡ pos 0) ⊎ (k ≡ m) → ⊥
 parts_apart n k m h a b = grind (arith, ints)
 
-parts_false_n : (n k m : ℤ) → parts_meet n k m ≡ false → pos 0 ≤ℤ n → n ≤ℤ m → pos 0 ≤ℤ k → k ≤ℤ m → (n ≡ pos 0) ⊎ (n ≡ m)
+parts_false_n : (n k m : ℤ) → are_meeting_parts n k m ≡ false → pos 0 ≤ℤ n → n ≤ℤ m → pos 0 ≤ℤ k → k ≤ℤ m → (n ≡ pos 0) ⊎ (n ≡ m)
 parts_false_n n k m h a b c d = grind (arith, ints)
 
-parts_false_k : (n k m : ℤ) → parts_meet n k m ≡ false → pos 0 ≤ℤ n → n ≤ℤ m → pos 0 ≤ℤ k → k ≤ℤ m → (k ≡ pos 0) ⊎ (k ≡ m)
+parts_false_k : (n k m : ℤ) → are_meeting_parts n k m ≡ false → pos 0 ≤ℤ n → n ≤ℤ m → pos 0 ≤ℤ k → k ≤ℤ m → (k ≡ pos 0) ⊎ (k ≡ m)
 parts_false_k n k m h a b c d = grind (arith, ints)
 
-pub across_found : (e f : Edge) (s : ℤ) → pos 0 <ℤ (s *ℤ turn e f) → parts_meet (s *ℤ offset e f f) (s *ℤ offset e f e) (s *ℤ turn e f) ≡ true → IsMeeting e f (along e (s *ℤ offset e f f) (s *ℤ turn e f))
+pub across_found : (e f : Edge) (s : ℤ) → pos 0 <ℤ (s *ℤ turn e f) → are_meeting_parts (s *ℤ offset e f f) (s *ℤ offset e f e) (s *ℤ turn e f) ≡ true → IsMeeting e f (along e (s *ℤ offset e f f) (s *ℤ turn e f))
 across_found e f s hm t =
     let n = s *ℤ offset e f f in let k = s *ℤ offset e f e in let m = s *ℤ turn e f in
     let r = parts_true n k m t in
@@ -92,7 +92,7 @@ across_found e f s hm t =
       no_shared_end = λ b. parts_apart n k m t (part_of_end e n m b.0) (part_of_end f k m (IsEnd-same f (along e n m) (along f k m) hm same b.1));
     }
 
-pub across_none : (e f : Edge) (s : ℤ) → pos 0 <ℤ (s *ℤ turn e f) → parts_meet (s *ℤ offset e f f) (s *ℤ offset e f e) (s *ℤ turn e f) ≡ false → (q : Spot) → ¬ IsMeeting e f q
+pub across_none : (e f : Edge) (s : ℤ) → pos 0 <ℤ (s *ℤ turn e f) → are_meeting_parts (s *ℤ offset e f f) (s *ℤ offset e f e) (s *ℤ turn e f) ≡ false → (q : Spot) → ¬ IsMeeting e f q
 across_none e f s hm t q meeting =
     let n = s *ℤ offset e f f in let k = s *ℤ offset e f e in let m = s *ℤ turn e f in
     let at_e = common_is e f q s meeting.on_e.collinear meeting.on_f.collinear in
@@ -127,13 +127,13 @@ k-steps e f det sign m a n b k s = s.k_is ∙ ap (λ z. sign *ℤ z) s.b_is
 pub real-steps : (e f : Edge) (det sign m a n b k : ℤ) → Steps e f det sign m a n b k → pos 0 <ℤ (sign *ℤ turn e f)
 real-steps e f det sign m a n b k s = subst (λ z. pos 0 <ℤ (sign *ℤ z)) s.det_is s.positive
 
-test-steps : (e f : Edge) (det sign m a n b k : ℤ) (t : Bool) → Steps e f det sign m a n b k → parts_meet n k m ≡ t → parts_meet (sign *ℤ offset e f f) (sign *ℤ offset e f e) (sign *ℤ turn e f) ≡ t
+test-steps : (e f : Edge) (det sign m a n b k : ℤ) (t : Bool) → Steps e f det sign m a n b k → are_meeting_parts n k m ≡ t → are_meeting_parts (sign *ℤ offset e f f) (sign *ℤ offset e f e) (sign *ℤ turn e f) ≡ t
 test-steps e f det sign m a n b k t s h = rw (← n-steps e f det sign m a n b k s, ← k-steps e f det sign m a n b k s, ← m-steps e f det sign m a n b k s) h
 
-pub found_by : (e f : Edge) (det sign m a n b k : ℤ) (r : Spot) → Steps e f det sign m a n b k → parts_meet n k m ≡ true → Same (along e n m) r → pos 0 <ℤ r.m → IsMeeting e f r
+pub found_by : (e f : Edge) (det sign m a n b k : ℤ) (r : Spot) → Steps e f det sign m a n b k → are_meeting_parts n k m ≡ true → Same (along e n m) r → pos 0 <ℤ r.m → IsMeeting e f r
 found_by e f det sign m a n b k r s h same real =
     let same' : Same (along e (sign *ℤ offset e f f) (sign *ℤ turn e f)) r = rw (← n-steps e f det sign m a n b k s, ← m-steps e f det sign m a n b k s) same in
     IsMeeting-same e f (along e (sign *ℤ offset e f f) (sign *ℤ turn e f)) r real same' (across_found e f sign (real-steps e f det sign m a n b k s) (test-steps e f det sign m a n b k true s h))
 
-pub none_by : (e f : Edge) (det sign m a n b k : ℤ) → Steps e f det sign m a n b k → parts_meet n k m ≡ false → (q : Spot) → ¬ IsMeeting e f q
+pub none_by : (e f : Edge) (det sign m a n b k : ℤ) → Steps e f det sign m a n b k → are_meeting_parts n k m ≡ false → (q : Spot) → ¬ IsMeeting e f q
 none_by e f det sign m a n b k s h = across_none e f sign (real-steps e f det sign m a n b k s) (test-steps e f det sign m a n b k false s h)

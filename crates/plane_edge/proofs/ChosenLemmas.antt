@@ -10,7 +10,7 @@ use Rattle.whole_ring.proofs.Signs.Sign.{below, none, above}
 use Rattle.plane_edge.proofs.MeetLemmas.{common_is}
 use Rattle.plane_edge.proofs.UniqueLemmas.{lowest_unique}
 
-spots_equal : (s t : Spot) → (s.x ≡ t.x) × (s.y ≡ t.y) × (s.m ≡ t.m) → s ≡ t
+pub spots_equal : (s t : Spot) → (s.x ≡ t.x) × (s.y ≡ t.y) × (s.m ≡ t.m) → s ≡ t
 spots_equal s t h =
     ap (λ (x : ℤ). record { x = x; y = s.y; m = s.m }) h.0 ∙ ap (λ (y : ℤ). record { x = t.x; y = y; m = s.m }) h.1 ∙ ap (λ (m : ℤ). record { x = t.x; y = t.y; m = m }) h.2
 

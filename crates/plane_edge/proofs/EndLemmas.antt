@@ -3,7 +3,7 @@ use Rattle.std.proofs.Common.{◌≡◌, ◌+◌, ◌*◌, ◌%◌, refl, sym, �
 use Rattle.std.proofs.lemmas.Int.{ints}
 use Rattle.plane_edge.specs.declared.edge.Edge.{Edge}
 use Rattle.plane_edge.specs.declared.point.Point.{Point}
-use Rattle.plane_edge.specs.Edges.{is_same_point, HaveEvenEnds, reaches, IsClosed}
+use Rattle.plane_edge.specs.Edges.{is_same_point, HaveEvenEnds, is_reached, IsClosed}
 use Rattle.plane_edge.specs.Line.{is_end_of}
 use Rattle.plane_edge.specs.Order.{is_below}
 use Rattle.whole_ring.proofs.Laws.{*ℤ_comm}
@@ -47,12 +47,12 @@ pub rises : (e : Edge) → e.low.y ≤ℤ e.high.y
 rises e = low_upto_high e.low.x e.low.y e.high.x e.high.y e.rising
 
 reaches_counted : (y m : ℤ) → pos 0 <ℤ m → (es : List Edge) →
-    count_by (λ e. reaches y m e) es + 2 * count_by (λ e. int_le (e.high.y *ℤ m) y) es ≡ count_by (λ p. int_le (p.y *ℤ m) y) (ends es)
+    count_by (λ e. is_reached y m e) es + 2 * count_by (λ e. int_le (e.high.y *ℤ m) y) es ≡ count_by (λ p. int_le (p.y *ℤ m) y) (ends es)
 reaches_counted y m h [] = refl
 reaches_counted y m h (e ∷ es) =
     let up : (m *ℤ e.low.y) ≤ℤ (m *ℤ e.high.y) = le-mul m e.low.y e.high.y (omega (arith, lin)) (rises e) in
     let k = reach_parts (e.low.y *ℤ m) (e.high.y *ℤ m) y (omega (arith, lin, *ℤ_comm m e.low.y, *ℤ_comm m e.high.y)) in
-    omega (arith, ends_more (λ p. int_le (p.y *ℤ m) y) e es, count-cons (λ f. reaches y m f) e es, count-cons (λ f. int_le (f.high.y *ℤ m) y) e es, reaches_counted y m h es, k)
+    omega (arith, ends_more (λ p. int_le (p.y *ℤ m) y) e es, count-cons (λ f. is_reached y m f) e es, count-cons (λ f. int_le (f.high.y *ℤ m) y) e es, reaches_counted y m h es, k)
 
 pub ends_even : (es : List Edge) → HaveEvenEnds es → (g : Point → Bool) → count_by g (ends es) % 2 ≡ 0
 ends_even es h g =

@@ -5,7 +5,7 @@ use Rattle.plane_edge.specs.declared.edge.Edge.{Edge}
 use Rattle.plane_edge.specs.declared.spot.Spot.{Spot}
 use Rattle.plane_edge.specs.Edges.{is_same_edge, is_edge_below, IsRisingEdges, occurrences, IsOdd, AreOddOf, HaveEvenEnds}
 use Rattle.plane_edge.specs.Line.{is_end_of}
-use Rattle.plane_edge.specs.Plane.{crosses, IsInside}
+use Rattle.plane_edge.specs.Plane.{is_crossed, IsInside}
 use Rattle.plane_edge.proofs.EvenLists.{bit_yes, bit_no, count-cons, same_parity}
 use Rattle.plane_edge.proofs.OrderLemmas.{same_edges_equal, same_edge_itself, equal_edges_same, edge_below-irreflexive, edge_below-one_way}
 
@@ -126,7 +126,7 @@ odd_even_ends steps odd a h = λ p. odd_counts steps odd a (λ e. is_end_of e p)
 -- a spot is inside the odd edges exactly where it is inside the steps
 pub odd_inside : (steps odd : List Edge) → AreOddOf steps odd → (s : Spot) → IsInside odd s ↔ IsInside steps s
 odd_inside steps odd a s =
-    let k = odd_counts steps odd a (λ e. crosses e s) in ((λ i. sym k ∙ i), (λ i. k ∙ i))
+    let k = odd_counts steps odd a (λ e. is_crossed e s) in ((λ i. sym k ∙ i), (λ i. k ∙ i))
 
 -- ---- one list only
 least_of_both : (d e : Edge) (ds es : List Edge) → IsRisingEdges (d ∷ ds) → IsRisingEdges (e ∷ es) → Contains (e ∷ es) d → Contains (d ∷ ds) e → d ≡ e

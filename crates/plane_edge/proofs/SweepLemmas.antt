@@ -6,7 +6,7 @@ use Rattle.std.proofs.lemmas.List.Sorted.{sorted_far, ranks_by, sum_by-IsPermuta
 use Rattle.std.proofs.lemmas.List.{get_or_default, take_all, take_more, length-take}
 use Rattle.plane_edge.specs.declared.edge.Edge.{Edge}
 use Rattle.plane_edge.specs.Edges.{is_same_edge, is_edge_below, IsRisingEdges, occurrences, AreOddOf}
-use Rattle.plane_edge.specs.Sweep.{is_last, toggled}
+use Rattle.plane_edge.specs.Sweep.{is_last, toggle}
 use Rattle.plane_edge.proofs.EvenLists.{count-append}
 use Rattle.plane_edge.proofs.OddLemmas.{rising_at, occurrences-cons, odd_from_parity}
 use Rattle.plane_edge.proofs.OrderLemmas.{edge_order, edge_order_total, edge_below_is_less, EdgeCase, edge_case, equal_edges_same, same_edges_equal}
@@ -63,25 +63,25 @@ above_all g es r u l = λ k d h. at k d h (edge_case (slice_index_or es k d) g)
     at k d h (same q) = top k d h q (grind arith)
     at k d h (above b) = absurd (true≢false (sym b ∙ u k d h))
 
-toggled-rising : (g : Edge) (es : List Edge) → IsRisingEdges es → Upto g es → IsRisingEdges (toggled es g)
-toggled-rising g es r u = go (is_last es g) refl
+toggle-rising : (g : Edge) (es : List Edge) → IsRisingEdges es → Upto g es → IsRisingEdges (toggle es g)
+toggle-rising g es r u = go (is_last es g) refl
   where
     go : (b : Bool) → is_last es g ≡ b → IsRisingEdges (if b then take (length es - 1) es else es ++ g ∷ [])
     go true l = rising-take (length es - 1) es r
     go false l = rising-push g es r (above_all g es r u l)
 
-toggled-all : (P : Edge → Type 0) (g : Edge) (es : List Edge) → P g → All P es → All P (toggled es g)
-toggled-all P g es p h = go (is_last es g)
+toggle-all : (P : Edge → Type 0) (g : Edge) (es : List Edge) → P g → All P es → All P (toggle es g)
+toggle-all P g es p h = go (is_last es g)
   where
     go : (b : Bool) → All P (if b then take (length es - 1) es else es ++ g ∷ [])
     go true = All-take P (length es - 1) es h
     go false = All-push P es g h p
 
-pub swept-rising : (out rest : List Edge) → IsRisingEdges out → InOrder rest → All (λ g. Upto g out) rest → IsRisingEdges (fold toggled out rest)
+pub swept-rising : (out rest : List Edge) → IsRisingEdges out → InOrder rest → All (λ g. Upto g out) rest → IsRisingEdges (fold toggle out rest)
 swept-rising out [] r o u = r
 swept-rising out (g ∷ rest) r o u =
-    swept-rising (toggled out g) rest (toggled-rising g out r (All-head (λ h. Upto h out) g rest u)) o.1
-    (λ k d h. toggled-all (λ f. is_edge_below (slice_index_or rest k d) f ≡ false) g out (o.0 k d h) (All-tail (λ h. Upto h out) g rest u k d h))
+    swept-rising (toggle out g) rest (toggle-rising g out r (All-head (λ h. Upto h out) g rest u)) o.1
+    (λ k d h. toggle-all (λ f. is_edge_below (slice_index_or rest k d) f ≡ false) g out (o.0 k d h) (All-tail (λ h. Upto h out) g rest u k d h))
 
 -- ---- the counts
 front_and_last : (xs : List Edge) (d : Edge) → 0 < length xs → take (length xs - 1) xs ++ slice_index_or xs (length xs - 1) d ∷ [] ≡ xs
@@ -89,8 +89,8 @@ front_and_last xs d h =
     let whole : take (length xs - 1 + 1) xs ≡ xs = take_all (length xs - 1 + 1) xs (omega arith) in
     sym (take_more xs (length xs - 1) d (omega arith)) ∙ whole
 
-toggled-parity : (e g : Edge) (es : List Edge) → occurrences e (toggled es g) % 2 ≡ (occurrences e es + cond (is_same_edge e g) 1 0) % 2
-toggled-parity e g es = go (is_last es g) refl
+toggle-parity : (e g : Edge) (es : List Edge) → occurrences e (toggle es g) % 2 ≡ (occurrences e es + cond (is_same_edge e g) 1 0) % 2
+toggle-parity e g es = go (is_last es g) refl
   where
     one : (d : Edge) → occurrences e (d ∷ []) ≡ cond (is_same_edge e d) 1 0
     one d = omega (arith, occurrences-cons e d [])
@@ -109,11 +109,11 @@ toggled-parity e g es = go (is_last es g) refl
         twice_gone (is_same_edge e g) (occurrences e (take (length es - 1) es)) (occurrences e es) (omega (arith, c, t, one g))
     go false l = ap (λ n. n % 2) (count-append (λ f. is_same_edge e f) es (g ∷ []) ∙ ap (λ n. occurrences e es + n) (one g))
 
-pub swept-parity : (e : Edge) (out rest : List Edge) → occurrences e (fold toggled out rest) % 2 ≡ (occurrences e out + occurrences e rest) % 2
+pub swept-parity : (e : Edge) (out rest : List Edge) → occurrences e (fold toggle out rest) % 2 ≡ (occurrences e out + occurrences e rest) % 2
 swept-parity e out [] = ap (λ n. n % 2) (omega arith)
 swept-parity e out (g ∷ rest) =
-    let a = swept-parity e (toggled out g) rest in
-    let b = toggled-parity e g out in
+    let a = swept-parity e (toggle out g) rest in
+    let b = toggle-parity e g out in
     omega (arith, occurrences-cons e g rest)
 
 -- ---- the sorted list
@@ -124,21 +124,21 @@ in_order (e ∷ es) h = (
   in_order es (λ i j d p q. h (suc i) (suc j) d (omega arith) (omega arith)),
 )
 
-pub swept_odd : (steps sorted : List Edge) → IsPermutation steps sorted → IsSorted edge_order sorted → AreOddOf steps (fold toggled [] sorted)
+pub swept_odd : (steps sorted : List Edge) → IsPermutation steps sorted → IsSorted edge_order sorted → AreOddOf steps (fold toggle [] sorted)
 swept_odd steps sorted p s =
     let far = sorted_far (λ e f. is_lt (edge_order e f)) (ranks_by edge_order_total (λ e. e)) sorted s in
-    odd_from_parity steps (fold toggled [] sorted)
+    odd_from_parity steps (fold toggle [] sorted)
     (swept-rising [] sorted tt (in_order sorted far) (λ k d h. All-nil (λ f. is_edge_below (slice_index_or sorted k d) f ≡ false)))
     (λ e. swept-parity e [] sorted ∙ ap (λ n. n % 2) (zero-add (occurrences e sorted) ∙ sum_by-IsPermutation (λ f. cond (is_same_edge e f) 1 0) steps sorted p))
 
 -- ---- the length
-toggled-length : (g : Edge) (es : List Edge) → length (toggled es g) ≤ length es + 1
-toggled-length g es = go (is_last es g)
+toggle-length : (g : Edge) (es : List Edge) → length (toggle es g) ≤ length es + 1
+toggle-length g es = go (is_last es g)
   where
     go : (b : Bool) → length (if b then take (length es - 1) es else es ++ g ∷ []) ≤ length es + 1
     go true = simp length-take (omega arith)
     go false = simp length-append (omega arith)
 
-pub swept-length : (out rest : List Edge) → length (fold toggled out rest) ≤ length out + length rest
+pub swept-length : (out rest : List Edge) → length (fold toggle out rest) ≤ length out + length rest
 swept-length out [] = omega arith
-swept-length out (g ∷ rest) = omega (arith, swept-length (toggled out g) rest, toggled-length g out)
+swept-length out (g ∷ rest) = omega (arith, swept-length (toggle out g) rest, toggle-length g out)

@@ -1,7 +1,8 @@
 -- The range of a coordinate.
-use Rattle.std.specs.Prelude.{◌^◌, ℤ, pos, neg_ℤ, ◌≤ℤ◌}
+use Rattle.std.specs.Prelude.{ℤ, neg_ℤ, ◌≤ℤ◌}
+use Rattle.agg_base.specs.declared.limits.TheConstants.{COORDINATE}
 
--- a coordinate is at most 2^30 from 0
+-- a coordinate is at most 1,073,741,824 from 0
 pub record IsCoordinate (z : ℤ) : Type 0 where
-  pub least : neg_ℤ (pos (2 ^ 30)) ≤ℤ z
-  pub most : z ≤ℤ pos (2 ^ 30)
+  pub least : neg_ℤ COORDINATE ≤ℤ z
+  pub most : z ≤ℤ COORDINATE

@@ -41,9 +41,9 @@ abbrev pub HaveEvenEnds : List Edge → Type 0
 HaveEvenEnds es = (p : Point) → count_by (λ e. is_end_of e p) es % 2 ≡ 0
 
 -- the edge has a point at the height y/m, its high end left out
-abbrev pub reaches : ℤ → ℤ → Edge → Bool
-reaches y m e = int_le (e.low.y *ℤ m) y && int_lt y (e.high.y *ℤ m)
+abbrev pub is_reached : ℤ → ℤ → Edge → Bool
+is_reached y m e = int_le (e.low.y *ℤ m) y && int_lt y (e.high.y *ℤ m)
 
 -- each height is reached by an even number of the edges
 abbrev pub IsClosed : List Edge → Type 0
-IsClosed es = (y m : ℤ) → pos 0 <ℤ m → count_by (λ e. reaches y m e) es % 2 ≡ 0
+IsClosed es = (y m : ℤ) → pos 0 <ℤ m → count_by (λ e. is_reached y m e) es % 2 ≡ 0

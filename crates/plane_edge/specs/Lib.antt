@@ -5,5 +5,7 @@ pub mod Line
 pub mod Middle
 pub mod Edges
 pub mod Rings
+pub mod Limits
+pub mod Paths
 pub mod Sweep
 pub mod Spelling

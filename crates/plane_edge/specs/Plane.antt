@@ -36,16 +36,16 @@ abbrev pub is_across_of : Edge → Spot → Bool
 is_across_of e s = is_within_of (int_min (e.low.x *ℤ s.m) (e.high.x *ℤ s.m)) s.x (int_max (e.low.x *ℤ s.m) (e.high.x *ℤ s.m))
 
 -- `On` as a test
-abbrev pub lies_on : Edge → Spot → Bool
-lies_on e s = (int_eq (side_of e s) (pos 0) && is_along_of e s) && is_across_of e s
+abbrev pub is_on : Edge → Spot → Bool
+is_on e s = (int_eq (side_of e s) (pos 0) && is_along_of e s) && is_across_of e s
 
 -- the ray from the spot to the right crosses the edge, whose high end does not count
-abbrev pub crosses : Edge → Spot → Bool
-crosses e s = is_passed_by (e.low.y *ℤ s.m) s.y (e.high.y *ℤ s.m) (side_of e s)
+abbrev pub is_crossed : Edge → Spot → Bool
+is_crossed e s = is_passed_by (e.low.y *ℤ s.m) s.y (e.high.y *ℤ s.m) (side_of e s)
 
 -- the spot crosses an odd number of the edges
 abbrev pub IsInside : List Edge → Spot → Type 0
-IsInside es s = count_by (λ e. crosses e s) es % 2 ≡ 1
+IsInside es s = count_by (λ e. is_crossed e s) es % 2 ≡ 1
 
 -- the spot's numbers are small enough to reckon with
 pub record IsBounded (s : Spot) : Type 0 where
@@ -105,8 +105,8 @@ abbrev pub is_end_part : ℤ → ℤ → Bool
 is_end_part n m = int_eq n (pos 0) || int_eq n m
 
 -- both parts are from 0 to m, and not both 0 or m
-abbrev pub parts_meet : ℤ → ℤ → ℤ → Bool
-parts_meet n k m = (is_part n m && is_part k m) && not (is_end_part n m && is_end_part k m)
+abbrev pub are_meeting_parts : ℤ → ℤ → ℤ → Bool
+are_meeting_parts n k m = (is_part n m && is_part k m) && not (is_end_part n m && is_end_part k m)
 
 -- no whole number above 1 divides all three
 abbrev pub IsLowest : Spot → Type 0

@@ -8,5 +8,5 @@ abbrev pub is_last : List Edge → Edge → Bool
 is_last es e = nat_lt 0 (length es) && is_same_edge (slice_index_or es (length es - 1) e) e
 
 -- the edge goes where it is the last one, else it comes
-abbrev pub toggled : List Edge → Edge → List Edge
-toggled es e = (if is_last es e then take (length es - 1) es else es ++ e ∷ [])
+abbrev pub toggle : List Edge → Edge → List Edge
+toggle es e = (if is_last es e then take (length es - 1) es else es ++ e ∷ [])

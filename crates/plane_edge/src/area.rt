@@ -1,4 +1,4 @@
-//! Areas.
+// Areas.
 use crate::edge::Edge;
 use agg_base::Text;
 use std::marker::Model;
@@ -11,9 +11,9 @@ pub struct Area {
 }
 
 impl Model for Area {
-    ghost use Rattle.plane_edge.specs.Rings.{Outline};
+    ghost use Rattle.plane_edge.specs.Rings.{Area};
 
-    ghost Value = { Outline };
+    ghost Value = { Area };
 
     ghost use Rattle.plane_edge.specs.Edges.{HaveEvenEnds};
 

@@ -1,4 +1,4 @@
-//! Edges between points.
+// Edges between points.
 ghost use Rattle.std.specs.Prelude.{IsTrue};
 ghost use Rattle.plane_edge.specs.Order.{is_below};
 

@@ -1,4 +1,4 @@
-//! How the whole coordinates of a map stand for its own numbers, and the limits of a map.
+// How the whole coordinates of a map stand for its own numbers, and the limits of a map.
 ghost use Rattle.std.specs.Prelude.{◌≡◌, IfOk};
 
 use agg_base::{NoMemory, Text};

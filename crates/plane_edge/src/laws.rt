@@ -1,4 +1,4 @@
-//! Laws of the answers.
+// Laws of the answers.
 ghost use Rattle.plane_edge.specs.Spelling.{SpellingsAgree};
 
 /// All spellings of a rational point get the same answers of `on`, `inside` and `meet`.

@@ -1,4 +1,4 @@
-//! Where two edges on one line meet.
+// Where two edges on one line meet.
 ghost use Rattle.std.specs.Prelude.{◌≡◌, ◌≢◌, ◌↔◌, ◌&&◌, ◌||◌, not, ◌≤◌, ◌^◌, pos, IfSome, IfNone, IsTrue, int_lt, int_le};
 ghost use Rattle.std.specs.Ordering.{int_eq};
 ghost use Rattle.plane_edge.specs.Order.{is_below};
@@ -10,21 +10,21 @@ use crate::point::Point;
 use crate::sight::on;
 use crate::spot::Spot;
 
-/// Whether the first place comes before the second, by y and then by x.
+// Whether the first place comes before the second, by y and then by x.
 fn is_before(x: i32, y: i32, other_x: i32, other_y: i32) -> bool
     ensures { result ≡ int_lt y other_y || (int_le y other_y && int_lt x other_x) }
 {
     y < other_y || y <= other_y && x < other_x
 }
 
-/// Whether the first point comes before the second.
+// Whether the first point comes before the second.
 fn is_lower(a: Point, b: Point) -> bool
     ensures { result ≡ is_below a b }
 {
     is_before(a.x, a.y, b.x, b.y)
 }
 
-/// The greater low end.
+// The greater low end.
 #[tactic(auto, using(crate::proofs::LineLemmas::later_then, crate::proofs::LineLemmas::later_else))]
 fn later_low(e: &Edge, f: &Edge) -> Point
     ensures value { result ≡ later_low_of e.now f.now }
@@ -33,7 +33,7 @@ fn later_low(e: &Edge, f: &Edge) -> Point
     if is_lower(e.low, f.low) { f.low } else { e.low }
 }
 
-/// The lesser high end.
+// The lesser high end.
 #[tactic(auto, using(crate::proofs::LineLemmas::earlier_then, crate::proofs::LineLemmas::earlier_else))]
 fn earlier_high(e: &Edge, f: &Edge) -> Point
     ensures value { result ≡ earlier_high_of e.now f.now }
@@ -53,14 +53,14 @@ pub fn are_equal(x: i32, y: i32, other_x: i32, other_y: i32) -> bool
     x == other_x && y == other_y
 }
 
-/// Whether the points are equal.
+// Whether the points are equal.
 fn is_at(a: Point, b: Point) -> bool
     ensures { result ≡ int_eq a.x b.x && int_eq a.y b.y }
 {
     are_equal(a.x, a.y, b.x, b.y)
 }
 
-/// Whether the point is an end of the edge.
+// Whether the point is an end of the edge.
 fn is_end(e: &Edge, p: Point) -> bool
     ensures { result ≡ is_end_of e.now p }
 {
@@ -69,6 +69,7 @@ fn is_end(e: &Edge, p: Point) -> bool
     is_either(is_low, is_high)
 }
 
+// Whether one of the two holds at least.
 fn is_either(a: bool, b: bool) -> bool
     ensures { result ≡ a || b }
 {
@@ -82,8 +83,8 @@ pub fn are_met(on_e: bool, on_f: bool, end_of_e: bool, end_of_f: bool) -> bool
     on_e && on_f && !(end_of_e && end_of_f)
 }
 
-/// Whether the edges meet at the point.
-fn do_meet_at(e: &Edge, f: &Edge, p: Point) -> bool
+// Whether the edges meet at the point.
+fn is_meeting_at(e: &Edge, f: &Edge, p: Point) -> bool
     ensures { IsTrue result ↔ IsMeeting e.now f.now (whole p) }
 {
     let spot = spot_of(p);
@@ -94,7 +95,7 @@ fn do_meet_at(e: &Edge, f: &Edge, p: Point) -> bool
     are_met(on_e, on_f, end_of_e, end_of_f)
 }
 
-/// The spot of a point.
+// The spot of a point.
 fn spot_of(p: Point) -> Spot
     ensures { result ≡ whole p }
 {
@@ -115,9 +116,9 @@ pub fn meet_level(e: &Edge, f: &Edge) -> Option<Spot>
 {
     let p = later_low(e, f);
     let q = earlier_high(e, f);
-    if do_meet_at(e, f, p) {
+    if is_meeting_at(e, f, p) {
         Some(spot_of(p))
-    } else if do_meet_at(e, f, q) {
+    } else if is_meeting_at(e, f, q) {
         Some(spot_of(q))
     } else {
         None

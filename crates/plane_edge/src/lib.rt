@@ -2,6 +2,7 @@
 #![tactic(auto)]
 
 mod area;
+mod bounds;
 mod coverage;
 mod edge;
 mod frame;
@@ -10,7 +11,7 @@ mod level;
 mod making;
 mod meeting;
 mod middle;
-mod parity;
+mod odd_edges;
 mod point;
 mod rings;
 mod sight;
@@ -24,12 +25,12 @@ pub use frame::{Frame, Limit};
 pub use laws::spelling_law;
 pub use level::are_equal;
 pub use meeting::{lowest, meet, spot_along};
-pub use parity::{odd, odd_of};
+pub use odd_edges::{odd, odd_of};
 pub use point::Point;
 pub use rings::{steps_of_ring, steps_of_rings};
 pub use sight::{inside, is_crossed, on};
 pub use spot::Spot;
-pub use wide::{gap, minor, scaled, sum, sum_of_products};
+pub use wide::{gap, minor, scale, sum, sum_of_products};
 
 #[cfg(test)]
 mod tests;

@@ -1,21 +1,19 @@
-//! Points and edges from numbers and points.
+// Points and edges from numbers and points.
 ghost use Rattle.std.specs.Prelude.{◌≡◌, ◌≢◌, ◌↔◌, IsSome, IfSome, IfNone};
 ghost use Rattle.plane_edge.specs.Coordinate.{IsCoordinate};
 ghost use Rattle.plane_edge.specs.Rings.{ends_of, in_order};
 
 use crate::edge::Edge;
 use crate::point::Point;
+use agg_base::limits::COORDINATE;
 
-/// The greatest absolute value of a coordinate.
-const LIMIT: i64 = 1_073_741_824;
-
-/// A number that is a coordinate.
+// A number that is a coordinate.
 fn coordinate(value: i64) -> Option<i32>
     ensures value { IfSome result (λ z. z ≡ value) }
     ensures within { IfSome result (λ z. IsCoordinate z) }
     ensures beyond { IfNone result (¬ IsCoordinate value) }
 {
-    if value < -LIMIT || value > LIMIT {
+    if value < -COORDINATE || value > COORDINATE {
         return None;
     }
     Some(value as i32)

@@ -1,15 +1,15 @@
-//! Where two edges meet.
+// Where two edges meet.
 ghost use Rattle.std.specs.Prelude.{◌≡◌, ◌≢◌, ◌≤◌, ◌^◌, ◌*ℤ◌, ◌<ℤ◌, pos, unsigned_abs, IfSome, IfNone};
 ghost use Rattle.plane_edge.specs.Line.{IsMeetSpot};
-ghost use Rattle.plane_edge.specs.Plane.{turn, offset, along, is_part, is_end_part, parts_meet, Same, IsBounded, IsCommon, IsLowest, IsMeeting};
+ghost use Rattle.plane_edge.specs.Plane.{turn, offset, along, is_part, is_end_part, are_meeting_parts, Same, IsBounded, IsCommon, IsLowest, IsMeeting};
 
 use crate::edge::Edge;
 use crate::level::{are_met, meet_level};
 use crate::spot::Spot;
-use crate::wide::{gap, minor, placed, sign_of, times_sign};
-use whole_ring::{divided, gcd};
+use crate::wide::{gap, minor, place_along, sign_of, times_sign};
+use whole_ring::{gcd, quotient};
 
-/// 0 exactly where the edges are parallel.
+// 0 exactly where the edges are parallel.
 fn turn_of(e: &Edge, f: &Edge) -> i128
     ensures value { result ≡ turn e.now f.now }
     ensures within { unsigned_abs result ≤ 2 ^ 63 }
@@ -21,7 +21,7 @@ fn turn_of(e: &Edge, f: &Edge) -> i128
     minor(run, other_rise, rise, other_run)
 }
 
-/// How far the low ends of `e` and `f` are apart, across the direction of `g`.
+// How far the low ends of `e` and `f` are apart, across the direction of `g`.
 fn offset_of(e: &Edge, f: &Edge, g: &Edge) -> i128
     ensures value { result ≡ offset e.now f.now g.now }
     ensures within { unsigned_abs result ≤ 2 ^ 63 }
@@ -41,14 +41,14 @@ pub fn spot_along(e: &Edge, part: i128, m: i128) -> Spot
 {
     let run = gap(e.high.x, e.low.x);
     let rise = gap(e.high.y, e.low.y);
-    let x = placed(e.low.x, m, part, run);
-    let y = placed(e.low.y, m, part, rise);
+    let x = place_along(e.low.x, m, part, run);
+    let y = place_along(e.low.y, m, part, rise);
     Spot { x, y, m }
 }
 
-/// Whether both parts are from 0 to `m`, and not both an end.
-fn do_parts_meet(one: i128, other: i128, m: i128) -> bool
-    ensures { result ≡ parts_meet one other m }
+// Whether both parts are from 0 to `m`, and not both an end.
+fn are_meeting_parts(one: i128, other: i128, m: i128) -> bool
+    ensures { result ≡ are_meeting_parts one other m }
 {
     let one_in = is_in(one, m);
     let other_in = is_in(other, m);
@@ -57,21 +57,21 @@ fn do_parts_meet(one: i128, other: i128, m: i128) -> bool
     are_met(one_in, other_in, one_at_end, other_at_end)
 }
 
-/// Whether `part` is from 0 to `m`.
+// Whether `part` is from 0 to `m`.
 fn is_in(part: i128, m: i128) -> bool
     ensures { result ≡ is_part part m }
 {
     0 <= part && part <= m
 }
 
-/// Whether `part` is 0 or `m`.
+// Whether `part` is 0 or `m`.
 fn is_at_end(part: i128, m: i128) -> bool
     ensures { result ≡ is_end_part part m }
 {
     part == 0 || part == m
 }
 
-/// The greatest number that divides all three.
+// The greatest number that divides all three.
 fn greatest_common(x: i128, y: i128, m: i128) -> u128
     requires real { pos 0 <ℤ m }
     ensures { IsCommon x y m result }
@@ -90,13 +90,13 @@ pub fn lowest(spot: &Spot) -> Spot
     ensures is_lowest { IsLowest result }
 {
     let common = greatest_common(spot.x, spot.y, spot.m);
-    let x = divided(spot.x, common);
-    let y = divided(spot.y, common);
-    let m = divided(spot.m, common);
+    let x = quotient(spot.x, common);
+    let y = quotient(spot.y, common);
+    let m = quotient(spot.m, common);
     Spot { x, y, m }
 }
 
-/// The meeting of two edges that are not parallel.
+// The meeting of two edges that are not parallel.
 fn meet_across(e: &Edge, f: &Edge, turning: i128) -> Option<Spot>
     requires is_turn { turning ≡ turn e.now f.now }
     requires across { turning ≢ pos 0 }
@@ -109,7 +109,7 @@ fn meet_across(e: &Edge, f: &Edge, turning: i128) -> Option<Spot>
     let m = times_sign(sign, turning);
     let part = times_sign(sign, offset_of(e, f, f));
     let other_part = times_sign(sign, offset_of(e, f, e));
-    if do_parts_meet(part, other_part, m) {
+    if are_meeting_parts(part, other_part, m) {
         Some(lowest(&spot_along(e, part, m)))
     } else {
         None

@@ -1,4 +1,4 @@
-//! The middle of an edge.
+// The middle of an edge.
 ghost use Rattle.std.specs.Prelude.{◌≡◌};
 ghost use Rattle.plane_edge.specs.Middle.{middle_of};
 ghost use Rattle.plane_edge.specs.Plane.{IsBounded};

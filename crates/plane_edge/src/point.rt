@@ -1,4 +1,4 @@
-//! Points with whole coordinates.
+// Points with whole coordinates.
 ghost use Rattle.plane_edge.specs.Coordinate.{IsCoordinate};
 
 /// A point with whole coordinates, each from -2^30 to 2^30. Points are ordered by y, then by x.

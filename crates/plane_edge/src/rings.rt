@@ -1,4 +1,4 @@
-//! Steps of rings.
+// Steps of rings.
 ghost use Rattle.std.specs.Prelude.{◌≡◌, ◌++◌, map, flat_map, IfOk, OnOk};
 ghost use Rattle.plane_edge.specs.Edges.{HaveEvenEnds};
 ghost use Rattle.plane_edge.specs.Rings.{ends_of, step_between, steps_of_ring};
@@ -30,7 +30,7 @@ pub fn steps_of_rings(alloc: Global, rings: &[Vec<Point>]) -> Result<Vec<Edge>, 
     Ok(steps)
 }
 
-/// Appends the steps of a ring.
+// Appends the steps of a ring.
 fn push_ring(steps: &mut Vec<Edge>, ring: &[Point]) -> Result<(), NoMemory>
     ensures { OnOk result (map ends_of steps.new.items ≡ map ends_of steps.old.items ++ steps_of_ring ring.now) }
 {
@@ -45,7 +45,7 @@ fn push_ring(steps: &mut Vec<Edge>, ring: &[Point]) -> Result<(), NoMemory>
     push_step(steps, from, *first)
 }
 
-/// Appends the step between two points, if they differ.
+// Appends the step between two points, if they differ.
 fn push_step(steps: &mut Vec<Edge>, from: Point, to: Point) -> Result<(), NoMemory>
     ensures { OnOk result (map ends_of steps.new.items ≡ map ends_of steps.old.items ++ step_between from to) }
 {

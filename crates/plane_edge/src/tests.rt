@@ -1,25 +1,25 @@
-//! Worked values.
+// Worked values.
 use super::*;
 use agg_base::Text;
 use std::alloc::Global;
 use std::process::Abort;
 use std::test::Fail;
 
-/// The greatest coordinate.
+// The greatest coordinate.
 const FAR: i64 = 1_073_741_824;
 
-/// A point within the limit.
+// A point within the limit.
 fn point(rt: &impl Abort, x: i64, y: i64) -> Point {
     Point::of(x, y).expect(rt, "a coordinate past the limit")
 }
 
-/// The edge from the first two numbers to the last two.
+// The edge from the first two numbers to the last two.
 fn edge(rt: &impl Abort, ends: [i64; 4]) -> Edge {
     let [x0, y0, x1, y1] = ends;
     Edge::of(point(rt, x0, y0), point(rt, x1, y1)).expect(rt, "equal ends")
 }
 
-/// Where two edges meet, tried in either order.
+// Where two edges meet, tried in either order.
 fn met(rt: &impl Abort, a: [i64; 4], b: [i64; 4]) -> Option<(i128, i128, i128)> {
     let e = edge(rt, a);
     let f = edge(rt, b);
@@ -95,7 +95,7 @@ fn sums_are_exact(rt: HostRuntime) {
     assert_eq!(rt; minor(2, 3, 4, 5), -14);
 }
 
-/// The ring of four points.
+// The ring of four points.
 fn ring(rt: &impl Abort, alloc: Global, points: [[i64; 2]; 4]) -> Result<Vec<Point>, Fail> {
     let mut ring = Vec::new(alloc);
     for [x, y] in points {
@@ -104,7 +104,7 @@ fn ring(rt: &impl Abort, alloc: Global, points: [[i64; 2]; 4]) -> Result<Vec<Poi
     Ok(ring)
 }
 
-/// The area of two rings.
+// The area of two rings.
 fn area(
     rt: &impl Abort,
     alloc: Global,
@@ -182,7 +182,7 @@ fn odd_edges_rise(rt: HostRuntime) -> Result<(), Fail> {
     Ok(())
 }
 
-/// Asks for what a value of another thread needs.
+// Asks for what a value of another thread needs.
 fn is_shared_by_threads<T: Send + Sync>(_: &T) -> bool {
     true
 }
@@ -201,11 +201,12 @@ fn frames_are_copied(rt: HostRuntime) -> Result<(), Fail> {
         matches!(&copy, Frame::Scaled { sx, ty, .. } if sx.as_str() == "0.5" && ty.as_str() == "1e3")
     );
     assert!(rt; matches!(Frame::Plain.copy(alloc)?, Frame::Plain));
-    let coverage = Coverage {
-        areas: Vec::new(alloc),
-        passed: 1,
-        frame: copy,
-    };
+    let coverage = Coverage::of(Vec::new(alloc), 536_870_912, copy).expect(
+        &rt,
+        "within the limits",
+    );
+    assert!(rt; coverage.areas.is_empty() && coverage.passed == 536_870_912);
+    assert!(rt; Coverage::of(Vec::new(alloc), 536_870_913, Frame::Plain).is_none());
     spelling_law();
     assert!(rt; is_shared_by_threads(&coverage) && is_shared_by_threads(&edge(&rt, [0, 0, 1, 1])));
     Ok(())

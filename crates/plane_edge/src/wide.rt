@@ -1,9 +1,9 @@
-//! Steps of reckoning that are exact and stay within 128 bits.
+// Steps of reckoning that are exact and stay within 128 bits.
 ghost use Rattle.std.specs.Prelude.{◌≡◌, ◌≢◌, ◌+◌, ◌*◌, ◌^◌, ◌<◌, ◌≤◌, ◌+ℤ◌, ◌-ℤ◌, ◌*ℤ◌, ◌<ℤ◌, pos, unsigned_abs};
 ghost use Rattle.plane_edge.specs.Coordinate.{IsCoordinate};
 
 /// A coordinate over the denominator `m`.
-pub fn scaled(a: i32, m: i128) -> i128
+pub fn scale(a: i32, m: i128) -> i128
     requires in_range { IsCoordinate a }
     requires fine { unsigned_abs m ≤ 2 ^ 63 }
     ensures value { result ≡ a *ℤ m }
@@ -69,14 +69,14 @@ pub fn minor(a: i128, b: i128, c: i128, d: i128) -> i128
 }
 
 /// The coordinate at the part `part` of `m` of a stretch.
-pub fn placed(low: i32, m: i128, part: i128, gap: i128) -> i128
+pub fn place_along(low: i32, m: i128, part: i128, gap: i128) -> i128
     requires in_range { IsCoordinate low }
     requires m_within { unsigned_abs m ≤ 2 ^ 63 }
     requires part_within { unsigned_abs part ≤ 2 ^ 63 }
     requires gap_within { unsigned_abs gap ≤ 2 ^ 31 }
     ensures { result ≡ low *ℤ m +ℤ part *ℤ gap }
 {
-    let start = scaled(low, m);
+    let start = scale(low, m);
     sum_of_products(start, 1, gap, part)
 }
 

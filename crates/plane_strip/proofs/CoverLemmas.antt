@@ -3,7 +3,7 @@ use Rattle.std.proofs.Common.{◌≡◌, ℕ, ◌+◌, ◌%◌, ◌⊎◌, inl, 
 use Rattle.std.proofs.lemmas.List.Elements.{All-nil, All-cons, All-head, All-tail, All-weaker, All-contains}
 use Rattle.plane_edge.specs.declared.edge.Edge.{Edge}
 use Rattle.plane_edge.specs.declared.spot.Spot.{Spot}
-use Rattle.plane_edge.specs.Plane.{IsInside, crosses, side_of}
+use Rattle.plane_edge.specs.Plane.{IsInside, is_crossed, side_of}
 use Rattle.plane_strip.specs.Strip.{IsPlanar, InStrip, NoEndBetween, IsRising, AreNeighbours, EndsAt, IsOnMidLine}
 use Rattle.whole_ring.proofs.Laws.{*ℤ_comm}
 use Rattle.whole_ring.proofs.Signs.{lin, either_way, le-mul}
@@ -16,8 +16,8 @@ fold-same p q a (x ∷ xs) h =
     fold-same p q (a + cond (p x) 1 0) xs (All-tail (λ x. p x ≡ q x) x xs h)
     ∙ ap (λ b. fold (λ n x. n + cond (q x) 1 0) (a + cond b 1 0) xs) (All-head (λ x. p x ≡ q x) x xs h)
 
-pub IsInside-same : (es : List Edge) (s t : Spot) → All (λ e. crosses e t ≡ crosses e s) es → IsInside es s → IsInside es t
-IsInside-same es s t h i = ap (λ n. n % 2) (fold-same (λ e. crosses e t) (λ e. crosses e s) 0 es h) ∙ i
+pub IsInside-same : (es : List Edge) (s t : Spot) → All (λ e. is_crossed e t ≡ is_crossed e s) es → IsInside es s → IsInside es t
+IsInside-same es s t h i = ap (λ n. n % 2) (fold-same (λ e. is_crossed e t) (λ e. is_crossed e s) 0 es h) ∙ i
 
 fold-none : (p : Edge → Bool) (a : ℕ) (xs : List Edge) → All (λ x. p x ≡ false) xs → fold (λ n x. n + cond (p x) 1 0) a xs ≡ a
 fold-none p a [] h = refl
@@ -25,17 +25,17 @@ fold-none p a (x ∷ xs) h =
     ap (λ b. fold (λ n x. n + cond (p x) 1 0) (a + cond b 1 0) xs) (All-head (λ x. p x ≡ false) x xs h)
     ∙ fold-none p (a + 0) xs (All-tail (λ x. p x ≡ false) x xs h) ∙ omega arith
 
-some_crossed : (Q : Edge → Type 0) (s : Spot) (es : List Edge) → All Q es → ((e : Edge) × (Q e × (crosses e s ≡ true))) ⊎ All (λ e. crosses e s ≡ false) es
-some_crossed Q s [] q = inr (All-nil (λ e. crosses e s ≡ false))
-some_crossed Q s (e ∷ es) q = go (some_crossed Q s es (All-tail Q e es q)) (crosses e s) refl
+some_crossed : (Q : Edge → Type 0) (s : Spot) (es : List Edge) → All Q es → ((e : Edge) × (Q e × (is_crossed e s ≡ true))) ⊎ All (λ e. is_crossed e s ≡ false) es
+some_crossed Q s [] q = inr (All-nil (λ e. is_crossed e s ≡ false))
+some_crossed Q s (e ∷ es) q = go (some_crossed Q s es (All-tail Q e es q)) (is_crossed e s) refl
   where
-    go : ((e : Edge) × (Q e × (crosses e s ≡ true))) ⊎ All (λ e. crosses e s ≡ false) es → (b : Bool) → crosses e s ≡ b → ((e : Edge) × (Q e × (crosses e s ≡ true))) ⊎ All (λ e. crosses e s ≡ false) (e ∷ es)
+    go : ((e : Edge) × (Q e × (is_crossed e s ≡ true))) ⊎ All (λ e. is_crossed e s ≡ false) es → (b : Bool) → is_crossed e s ≡ b → ((e : Edge) × (Q e × (is_crossed e s ≡ true))) ⊎ All (λ e. is_crossed e s ≡ false) (e ∷ es)
     go r true c = inl (e, (All-head Q e es q, c))
     go (inl f) false c = inl f
-    go (inr a) false c = inr (All-cons (λ e. crosses e s ≡ false) e es c a)
+    go (inr a) false c = inr (All-cons (λ e. is_crossed e s ≡ false) e es c a)
 
-pub crossed_inside : (Q : Edge → Type 0) (s : Spot) (es : List Edge) → All Q es → IsInside es s → (e : Edge) × (Q e × (crosses e s ≡ true))
-crossed_inside Q s es q i = elim (some_crossed Q s es q) [ inl f ↦ f | inr a ↦ let z = fold-none (λ e. crosses e s) 0 es a in absurd (zero_is_even (sym (ap (λ n. n % 2) z) ∙ i)) ]
+pub crossed_inside : (Q : Edge → Type 0) (s : Spot) (es : List Edge) → All Q es → IsInside es s → (e : Edge) × (Q e × (is_crossed e s ≡ true))
+crossed_inside Q s es q i = elim (some_crossed Q s es q) [ inl f ↦ f | inr a ↦ let z = fold-none (λ e. is_crossed e s) 0 es a in absurd (zero_is_even (sym (ap (λ n. n % 2) z) ∙ i)) ]
   where
     zero_is_even : 0 % 2 ≡ 1 → ⊥
     zero_is_even e = cc
@@ -106,5 +106,5 @@ mid_line hs all a b s rising ends planar in_a in_b hm ia ib =
     let outside = none_between f.low f.high hs rising f.neighbours in
     let clear : (g : Edge) → EndsAt hs g → NoEndBetween f.low f.high g = λ g i. record { low_end = All-contains (Outside f.low f.high) hs g.low.y outside i.0; high_end = All-contains (Outside f.low f.high) hs g.high.y outside i.1 } in
     let t = strip f.low f.high all s (rising-pair f.low f.high hs rising f.neighbours) planar (All-weaker (EndsAt hs) (NoEndBetween f.low f.high) clear all ends) f.within in
-    let seen : (es : List Edge) → All (Contains all) es → IsInside es s → IsInside es t.0 = λ es i in_es. IsInside-same es s t.0 (All-weaker (Contains all) (λ e. crosses e t.0 ≡ crosses e s) (λ e m. All-contains (λ e. crosses e t.0 ≡ crosses e s) all e t.1.same_crossings m) es i) in_es in
+    let seen : (es : List Edge) → All (Contains all) es → IsInside es s → IsInside es t.0 = λ es i in_es. IsInside-same es s t.0 (All-weaker (Contains all) (λ e. is_crossed e t.0 ≡ is_crossed e s) (λ e m. All-contains (λ e. is_crossed e t.0 ≡ is_crossed e s) all e t.1.same_crossings m) es i) in_es in
     (t.0, (record { low = f.low; high = f.high; neighbours = f.neighbours; real = t.1.real; middle = t.1.middle }, seen a in_a ia, seen b in_b ib))

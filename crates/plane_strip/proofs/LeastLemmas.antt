@@ -4,14 +4,14 @@ use Rattle.std.proofs.lemmas.Int.{ints}
 use Rattle.std.proofs.lemmas.List.Elements.{All-weaker, All-contains, All-contains_itself}
 use Rattle.plane_edge.specs.declared.edge.Edge.{Edge}
 use Rattle.plane_edge.specs.declared.spot.Spot.{Spot}
-use Rattle.plane_edge.specs.Plane.{side_of, crosses, is_passed_by, IsInside, run, rise}
+use Rattle.plane_edge.specs.Plane.{side_of, is_crossed, is_passed_by, IsInside, run, rise}
 use Rattle.plane_strip.specs.Strip.{IsPlanar, InStrip, NoEndBetween, Spans, place}
-use Rattle.plane_edge.specs.Edges.{reaches, IsClosed}
+use Rattle.plane_edge.specs.Edges.{is_reached, IsClosed}
 use Rattle.whole_ring.proofs.Laws.{*ℤ_comm}
 use Rattle.whole_ring.proofs.Ring.{ring, var, con, ◌⊕◌, ◌⊖◌, ◌⊗◌}
 use Rattle.whole_ring.proofs.Signs.{lin, le-mul}
 use Rattle.plane_strip.proofs.StripLemmas.{spans, spanned, side-place, at_height}
-use Rattle.plane_strip.proofs.MidLemmas.{Pick, all_right, last_left, pick, Right, Left, at_left, both, spans_or, crosses-spanned, crosses-other, from_lt_false}
+use Rattle.plane_strip.proofs.MidLemmas.{Pick, all_right, last_left, pick, Right, Left, at_left, both, spans_or, is_crossed-spanned, is_crossed-other, from_lt_false}
 use Rattle.plane_strip.proofs.CoverLemmas.{fold-same}
 
 -- ---- a closed list is not seen from the far left
@@ -25,10 +25,10 @@ pub reach_parts : (low y high : ℤ) → (int_le low y && int_lt y high) ≡ tru
 reach_parts low y high h = grind (arith, ints)
 
 -- an edge that the strip does not have is not reached either
-reached : (h k : ℤ) (e : Edge) (t : Spot) → InStrip h k t.y t.m → NoEndBetween h k e → Right h k t e → crosses e t ≡ reaches t.y t.m e
+reached : (h k : ℤ) (e : Edge) (t : Spot) → InStrip h k t.y t.m → NoEndBetween h k e → Right h k t e → is_crossed e t ≡ is_reached t.y t.m e
 reached h k e t i n r = elim (spans_or h k e) [
   | inl p ↦ (let c = spanned h k e t.y t.m i p in r p ∙ sym (reach_true (e.low.y *ℤ t.m) t.y (e.high.y *ℤ t.m) c.0 c.1))
-  | inr out ↦ crosses-other h k e t i n out ∙ sym (off (reaches t.y t.m e) (λ c. let d = reach_parts (e.low.y *ℤ t.m) t.y (e.high.y *ℤ t.m) c in out (spans h k e t.y t.m i n d.0 d.1)))
+  | inr out ↦ is_crossed-other h k e t i n out ∙ sym (off (is_reached t.y t.m e) (λ c. let d = reach_parts (e.low.y *ℤ t.m) t.y (e.high.y *ℤ t.m) c in out (spans h k e t.y t.m i n d.0 d.1)))
 ]
   where
     off : (b : Bool) → ¬ (b ≡ true) → b ≡ false
@@ -37,8 +37,8 @@ reached h k e t i n r = elim (spans_or h k e) [
 
 pub not_far : (h k : ℤ) (a : List Edge) (t : Spot) → IsClosed a → InStrip h k t.y t.m → All (NoEndBetween h k) a → All (Right h k t) a → ¬ IsInside a t
 not_far h k a t closed i ends right inside =
-    let same = both (NoEndBetween h k) (Right h k t) (λ e. crosses e t ≡ reaches t.y t.m e) (λ e n r. reached h k e t i n r) a ends right in
-    let w = ap (λ n. n % 2) (fold-same (λ e. crosses e t) (λ e. reaches t.y t.m e) 0 a same) in
+    let same = both (NoEndBetween h k) (Right h k t) (λ e. is_crossed e t ≡ is_reached t.y t.m e) (λ e n r. reached h k e t i n r) a ends right in
+    let w = ap (λ n. n % 2) (fold-same (λ e. is_crossed e t) (λ e. is_reached t.y t.m e) 0 a same) in
     let e = sym inside ∙ w ∙ closed t.y t.m i.real in absurd (omega (arith, e))
 
 -- ---- the place scales
@@ -48,10 +48,10 @@ place-times e y m n = ring (e.low.x ∷ e.low.y ∷ run e ∷ rise e ∷ y ∷ m
     (var 0 ⊗ (var 3 ⊗ (var 5 ⊗ var 6)) ⊕ (var 4 ⊗ var 6 ⊖ var 1 ⊗ (var 5 ⊗ var 6)) ⊗ var 2) refl
 
 -- an edge that the spot on the mid-line does not cross passes at or to the left of it
-pub passes_left : (h k : ℤ) (f : Edge) (t : Spot) → InStrip h k t.y t.m → t.y *ℤ pos 2 ≡ (h +ℤ k) *ℤ t.m → Spans h k f → crosses f t ≡ false →
+pub passes_left : (h k : ℤ) (f : Edge) (t : Spot) → InStrip h k t.y t.m → t.y *ℤ pos 2 ≡ (h +ℤ k) *ℤ t.m → Spans h k f → is_crossed f t ≡ false →
     ((at_height f (h +ℤ k) (pos 2)).x *ℤ t.m) ≤ℤ (t.x *ℤ (rise f *ℤ pos 2))
 passes_left h k f t i middle q c =
-    let s = from_lt_false (pos 0) (side_of f t) (sym (crosses-spanned h k f t i q) ∙ c) in
+    let s = from_lt_false (pos 0) (side_of f t) (sym (is_crossed-spanned h k f t i q) ∙ c) in
     let w = side-place f t.x t.y t.m in
     let left : place f t.y t.m ≤ℤ (t.x *ℤ rise f) = omega (arith, lin) in
     let twice = le-mul (pos 2) (place f t.y t.m) (t.x *ℤ rise f) (omega (arith, lin)) left in
@@ -64,7 +64,7 @@ passes_left h k f t i middle q c =
 pub record IsCandidate (h k : ℤ) (es : List Edge) (t : Spot) (f : Edge) : Type 0 where
   pub held : Contains es f
   pub spans_strip : Spans h k f
-  pub same_crossings : All (λ e. crosses e (at_height f (h +ℤ k) (pos 2)) ≡ crosses e t) es
+  pub same_crossings : All (λ e. is_crossed e (at_height f (h +ℤ k) (pos 2)) ≡ is_crossed e t) es
   pub to_the_left : ((at_height f (h +ℤ k) (pos 2)).x *ℤ t.m) ≤ℤ (t.x *ℤ (rise f *ℤ pos 2))
 
 -- a spot of the mid-line inside a closed list has a candidate at its place or to the left, from which the same edges are crossed
@@ -81,7 +81,7 @@ candidate h k es a t h<k planar ends held closed i middle inside = go (pick h k 
       record {
         held = mf;
         spans_strip = q;
-        same_crossings = both (λ e. NoEndBetween h k e × Contains es e) (Left h k t f) (λ e. crosses e (at_height f (h +ℤ k) (pos 2)) ≡ crosses e t)
+        same_crossings = both (λ e. NoEndBetween h k e × Contains es e) (Left h k t f) (λ e. is_crossed e (at_height f (h +ℤ k) (pos 2)) ≡ is_crossed e t)
             (λ e c w. at_left h k es t f e h<k planar mf c.1 c.0 i q cf w) es (both (NoEndBetween h k) (Contains es) (λ e. NoEndBetween h k e × Contains es e) (λ e n m. (n, m)) es ends (All-contains_itself es)) l;
         to_the_left = passes_left h k f t i middle q cf;
       },

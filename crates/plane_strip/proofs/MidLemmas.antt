@@ -5,7 +5,7 @@ use Rattle.std.proofs.lemmas.Int.{ints, clamps}
 use Rattle.std.proofs.lemmas.List.Elements.{All-nil, All-cons, All-head, All-tail, All-weaker, All-contains_itself}
 use Rattle.plane_edge.specs.declared.edge.Edge.{Edge}
 use Rattle.plane_edge.specs.declared.spot.Spot.{Spot}
-use Rattle.plane_edge.specs.Plane.{side_of, crosses, is_passed_by, run, rise}
+use Rattle.plane_edge.specs.Plane.{side_of, is_crossed, is_passed_by, run, rise}
 use Rattle.plane_strip.specs.Strip.{IsPlanar, InStrip, NoEndBetween, Spans, place, lead}
 use Rattle.whole_ring.proofs.Laws.{*ℤ_comm, *ℤ_assoc}
 use Rattle.whole_ring.proofs.Ring.{ring, var, con, ◌⊕◌, ◌⊖◌, ◌⊗◌}
@@ -35,11 +35,11 @@ from_lt_true a b h = grind (arith, ints)
 pub from_lt_false : (a b : ℤ) → int_lt a b ≡ false → b ≤ℤ a
 from_lt_false a b h = grind (arith, ints)
 
-pub crosses-spanned : (h k : ℤ) (e : Edge) (s : Spot) → InStrip h k s.y s.m → Spans h k e → crosses e s ≡ int_lt (pos 0) (side_of e s)
-crosses-spanned h k e s i p = let c = spanned h k e s.y s.m i p in test_crossed (e.low.y *ℤ s.m) s.y (e.high.y *ℤ s.m) (side_of e s) c.0 c.1
+pub is_crossed-spanned : (h k : ℤ) (e : Edge) (s : Spot) → InStrip h k s.y s.m → Spans h k e → is_crossed e s ≡ int_lt (pos 0) (side_of e s)
+is_crossed-spanned h k e s i p = let c = spanned h k e s.y s.m i p in test_crossed (e.low.y *ℤ s.m) s.y (e.high.y *ℤ s.m) (side_of e s) c.0 c.1
 
-pub crosses-other : (h k : ℤ) (e : Edge) (s : Spot) → InStrip h k s.y s.m → NoEndBetween h k e → ¬ Spans h k e → crosses e s ≡ false
-crosses-other h k e s i n out = test_false (crosses e s) (λ c. let r = test_range (e.low.y *ℤ s.m) s.y (e.high.y *ℤ s.m) (side_of e s) c in out (spans h k e s.y s.m i n r.0 r.1))
+pub is_crossed-other : (h k : ℤ) (e : Edge) (s : Spot) → InStrip h k s.y s.m → NoEndBetween h k e → ¬ Spans h k e → is_crossed e s ≡ false
+is_crossed-other h k e s i n out = test_false (is_crossed e s) (λ c. let r = test_range (e.low.y *ℤ s.m) s.y (e.high.y *ℤ s.m) (side_of e s) c in out (spans h k e s.y s.m i n r.0 r.1))
 
 pub spans_or : (h k : ℤ) (e : Edge) → Spans h k e ⊎ ¬ Spans h k e
 spans_or h k e = elim (either_way e.low.y h) [
@@ -49,8 +49,8 @@ spans_or h k e = elim (either_way e.low.y h) [
 
 -- ---- among the edges that the spot does not cross, the one furthest to the right in the middle
 pub data Pick (h k : ℤ) (s : Spot) (all es : List Edge) : Type 0 where
-  all_right : All (λ g. Spans h k g → crosses g s ≡ true) es → Pick h k s all es
-  last_left : (f : Edge) → Contains all f → Spans h k f → crosses f s ≡ false → All (λ g. Spans h k g → crosses g s ≡ false → lead g f (h +ℤ k) (pos 2) ≤ℤ pos 0) es → Pick h k s all es
+  all_right : All (λ g. Spans h k g → is_crossed g s ≡ true) es → Pick h k s all es
+  last_left : (f : Edge) → Contains all f → Spans h k f → is_crossed f s ≡ false → All (λ g. Spans h k g → is_crossed g s ≡ false → lead g f (h +ℤ k) (pos 2) ≤ℤ pos 0) es → Pick h k s all es
 
 pub lead-self : (e : Edge) (y m : ℤ) → lead e e y m ≡ pos 0
 lead-self e y m = ring (place e y m ∷ rise e ∷ []) (var 0 ⊗ var 1 ⊖ var 0 ⊗ var 1) (con (pos 0)) refl
@@ -74,22 +74,22 @@ still_left h k g f e y m h<k pg pf pe a b = elim (sign (lead g e y m)) [
 ]
 
 abbrev pub Right : ℤ → ℤ → Spot → Edge → Type 0
-Right h k s g = Spans h k g → crosses g s ≡ true
+Right h k s g = Spans h k g → is_crossed g s ≡ true
 
 abbrev pub Left : ℤ → ℤ → Spot → Edge → Edge → Type 0
-Left h k s f g = Spans h k g → crosses g s ≡ false → lead g f (h +ℤ k) (pos 2) ≤ℤ pos 0
+Left h k s f g = Spans h k g → is_crossed g s ≡ false → lead g f (h +ℤ k) (pos 2) ≤ℤ pos 0
 
 clash : {X : Type 0} (b : Bool) → b ≡ true → b ≡ false → X
 clash b p q = absurd (true≢false (sym p ∙ q))
 
-pub take_up : (h k : ℤ) (s : Spot) (all : List Edge) (e : Edge) (es : List Edge) → h <ℤ k → Contains all e → Pick h k s all es → Spans h k e ⊎ ¬ Spans h k e → (b : Bool) → crosses e s ≡ b → Pick h k s all (e ∷ es)
+pub take_up : (h k : ℤ) (s : Spot) (all : List Edge) (e : Edge) (es : List Edge) → h <ℤ k → Contains all e → Pick h k s all es → Spans h k e ⊎ ¬ Spans h k e → (b : Bool) → is_crossed e s ≡ b → Pick h k s all (e ∷ es)
 take_up h k s all e es h<k mem (all_right a) (inr n) b c = all_right (All-cons (Right h k s) e es (λ p. absurd (n p)) a)
 take_up h k s all e es h<k mem (all_right a) (inl p) true c = all_right (All-cons (Right h k s) e es (λ q. c) a)
 take_up h k s all e es h<k mem (all_right a) (inl p) false c =
     let self : Left h k s e e = λ q r. (let z = lead-self e (h +ℤ k) (pos 2) in omega (arith, lin)) in
-    last_left e mem p c (All-cons (Left h k s e) e es self (All-weaker (Right h k s) (Left h k s e) (λ g right q r. clash (crosses g s) (right q) r) es a))
+    last_left e mem p c (All-cons (Left h k s e) e es self (All-weaker (Right h k s) (Left h k s e) (λ g right q r. clash (is_crossed g s) (right q) r) es a))
 take_up h k s all e es h<k mem (last_left f memf pf cf a) (inr n) b c = last_left f memf pf cf (All-cons (Left h k s f) e es (λ p. absurd (n p)) a)
-take_up h k s all e es h<k mem (last_left f memf pf cf a) (inl p) true c = last_left f memf pf cf (All-cons (Left h k s f) e es (λ q r. clash (crosses e s) c r) a)
+take_up h k s all e es h<k mem (last_left f memf pf cf a) (inl p) true c = last_left f memf pf cf (All-cons (Left h k s f) e es (λ q r. clash (is_crossed e s) c r) a)
 take_up h k s all e es h<k mem (last_left f memf pf cf a) (inl p) false c =
     elim (either_way (lead e f (h +ℤ k) (pos 2)) (pos 0)) [
       | inl d ↦ last_left f memf pf cf (All-cons (Left h k s f) e es (λ q r. d) a)
@@ -101,7 +101,7 @@ take_up h k s all e es h<k mem (last_left f memf pf cf a) (inl p) false c =
 
 pub pick : (h k : ℤ) (s : Spot) (all es : List Edge) → h <ℤ k → All (Contains all) es → Pick h k s all es
 pick h k s all [] h<k mem = all_right (All-nil (Right h k s))
-pick h k s all (e ∷ es) h<k mem = take_up h k s all e es h<k (All-head (Contains all) e es mem) (pick h k s all es h<k (All-tail (Contains all) e es mem)) (spans_or h k e) (crosses e s) refl
+pick h k s all (e ∷ es) h<k mem = take_up h k s all e es h<k (All-head (Contains all) e es mem) (pick h k s all es h<k (All-tail (Contains all) e es mem)) (spans_or h k e) (is_crossed e s) refl
 
 -- ---- a place to the left of all edges
 abbrev Beyond : ℤ → ℤ → ℤ → Edge → Type 0
@@ -132,7 +132,7 @@ far y m (e ∷ es) =
 pub record SeenAs (h k : ℤ) (es : List Edge) (s t : Spot) : Type 0 where
   pub real : pos 0 <ℤ t.m
   pub middle : t.y *ℤ pos 2 ≡ (h +ℤ k) *ℤ t.m
-  pub same_crossings : All (λ e. crosses e t ≡ crosses e s) es
+  pub same_crossings : All (λ e. is_crossed e t ≡ is_crossed e s) es
 
 pub side-lead : (e f : Edge) (y m : ℤ) → side_of e (at_height f y m) ≡ lead e f y m
 side-lead e f y m = ring (e.low.x ∷ e.low.y ∷ run e ∷ rise e ∷ f.low.x ∷ f.low.y ∷ run f ∷ rise f ∷ y ∷ m ∷ [])
@@ -171,33 +171,33 @@ mid-strip-at h k f h<k q =
       high = omega (arith, lin, turn k, *ℤ_comm (rise f) (h +ℤ k));
     }
 
-pub at_left : (h k : ℤ) (es : List Edge) (s : Spot) (f e : Edge) → h <ℤ k → IsPlanar es → Contains es f → Contains es e → NoEndBetween h k e → InStrip h k s.y s.m → Spans h k f → crosses f s ≡ false → Left h k s f e → crosses e (at_height f (h +ℤ k) (pos 2)) ≡ crosses e s
+pub at_left : (h k : ℤ) (es : List Edge) (s : Spot) (f e : Edge) → h <ℤ k → IsPlanar es → Contains es f → Contains es e → NoEndBetween h k e → InStrip h k s.y s.m → Spans h k f → is_crossed f s ≡ false → Left h k s f e → is_crossed e (at_height f (h +ℤ k) (pos 2)) ≡ is_crossed e s
 at_left h k es s f e h<k planar mf me n i q cf left = elim (spans_or h k e) [
-  | inr out ↦ crosses-other h k e (at_height f (h +ℤ k) (pos 2)) (mid-strip-at h k f h<k q) n out ∙ sym (crosses-other h k e s i n out)
-  | inl p ↦ go p (crosses e s) refl
+  | inr out ↦ is_crossed-other h k e (at_height f (h +ℤ k) (pos 2)) (mid-strip-at h k f h<k q) n out ∙ sym (is_crossed-other h k e s i n out)
+  | inl p ↦ go p (is_crossed e s) refl
 ]
   where
-    go : Spans h k e → (b : Bool) → crosses e s ≡ b → crosses e (at_height f (h +ℤ k) (pos 2)) ≡ crosses e s
+    go : Spans h k e → (b : Bool) → is_crossed e s ≡ b → is_crossed e (at_height f (h +ℤ k) (pos 2)) ≡ is_crossed e s
     go p true c =
         let t = at_height f (h +ℤ k) (pos 2) in
-        let a = from_lt_true (pos 0) (side_of e s) (sym (crosses-spanned h k e s i p) ∙ c) in
-        let b = from_lt_false (pos 0) (side_of f s) (sym (crosses-spanned h k f s i q) ∙ cf) in
-        let other : e ≢ f = λ same. clash (crosses e s) c (ap (λ g. crosses g s) same ∙ cf) in
+        let a = from_lt_true (pos 0) (side_of e s) (sym (is_crossed-spanned h k e s i p) ∙ c) in
+        let b = from_lt_false (pos 0) (side_of f s) (sym (is_crossed-spanned h k f s i q) ∙ cf) in
+        let other : e ≢ f = λ same. clash (is_crossed e s) c (ap (λ g. is_crossed g s) same ∙ cf) in
         let d = keeps_right h k e f s.y s.m (h +ℤ k) (pos 2) h<k (planar e f me mf other) p q i (mid_strip h k h<k) (mid_strict h k h<k) (leads h k e f s h<k p q a b) in
-        crosses-spanned h k e t (mid-strip-at h k f h<k q) p ∙ lt_true (pos 0) (side_of e t) (rw (side-lead e f (h +ℤ k) (pos 2)) d) ∙ sym c
+        is_crossed-spanned h k e t (mid-strip-at h k f h<k q) p ∙ lt_true (pos 0) (side_of e t) (rw (side-lead e f (h +ℤ k) (pos 2)) d) ∙ sym c
     go p false c =
         let t = at_height f (h +ℤ k) (pos 2) in
-        crosses-spanned h k e t (mid-strip-at h k f h<k q) p ∙ lt_false (pos 0) (side_of e t) (rw (side-lead e f (h +ℤ k) (pos 2)) (left p c)) ∙ sym c
+        is_crossed-spanned h k e t (mid-strip-at h k f h<k q) p ∙ lt_false (pos 0) (side_of e t) (rw (side-lead e f (h +ℤ k) (pos 2)) (left p c)) ∙ sym c
 
-at_far : (h k x : ℤ) (s : Spot) (e : Edge) → h <ℤ k → NoEndBetween h k e → InStrip h k s.y s.m → Right h k s e → Beyond (h +ℤ k) (pos 2) x e → crosses e (record { x = x; y = h +ℤ k; m = pos 2 }) ≡ crosses e s
+at_far : (h k x : ℤ) (s : Spot) (e : Edge) → h <ℤ k → NoEndBetween h k e → InStrip h k s.y s.m → Right h k s e → Beyond (h +ℤ k) (pos 2) x e → is_crossed e (record { x = x; y = h +ℤ k; m = pos 2 }) ≡ is_crossed e s
 at_far h k x s e h<k n i right beyond =
     let t : Spot = record { x = x; y = h +ℤ k; m = pos 2 } in
     elim (spans_or h k e) [
-      | inr out ↦ crosses-other h k e t (mid_strip h k h<k) n out ∙ sym (crosses-other h k e s i n out)
+      | inr out ↦ is_crossed-other h k e t (mid_strip h k h<k) n out ∙ sym (is_crossed-other h k e s i n out)
       | inl p ↦
           let b = beyond (omega (arith, lin, up h k e h<k p)) in
           let w = side-place e x (h +ℤ k) (pos 2) in
-          crosses-spanned h k e t (mid_strip h k h<k) p ∙ lt_true (pos 0) (side_of e t) (omega (arith, lin)) ∙ sym (right p)
+          is_crossed-spanned h k e t (mid_strip h k h<k) p ∙ lt_true (pos 0) (side_of e t) (omega (arith, lin)) ∙ sym (right p)
     ]
 
 pub both : {A : Type 0} (P Q R : A → Type 0) → ((a : A) → P a → Q a → R a) → (xs : List A) → All P xs → All Q xs → All R xs
@@ -214,7 +214,7 @@ strip h k es s h<k planar ends i = go (pick h k s es es h<k (All-contains_itself
           record {
             real = omega (arith, lin);
             middle = refl;
-            same_crossings = both (λ e. NoEndBetween h k e × Right h k s e) (Beyond (h +ℤ k) (pos 2) f.0) (λ e. crosses e t ≡ crosses e s)
+            same_crossings = both (λ e. NoEndBetween h k e × Right h k s e) (Beyond (h +ℤ k) (pos 2) f.0) (λ e. is_crossed e t ≡ is_crossed e s)
                 (λ e c b. at_far h k f.0 s e h<k c.0 i c.1 b) es (both (NoEndBetween h k) (Right h k s) (λ e. NoEndBetween h k e × Right h k s e) (λ e n r. (n, r)) es ends a) f.1.1;
           },
         )
@@ -224,7 +224,7 @@ strip h k es s h<k planar ends i = go (pick h k s es es h<k (All-contains_itself
           record {
             real = (mid-strip-at h k f h<k q).real;
             middle = ap (λ y. y *ℤ pos 2) (height-y f (h +ℤ k) (pos 2)) ∙ *ℤ_assoc (h +ℤ k) (rise f) (pos 2);
-            same_crossings = both (λ e. NoEndBetween h k e × Contains es e) (Left h k s f) (λ e. crosses e t ≡ crosses e s)
+            same_crossings = both (λ e. NoEndBetween h k e × Contains es e) (Left h k s f) (λ e. is_crossed e t ≡ is_crossed e s)
                 (λ e c l. at_left h k es s f e h<k planar mf c.1 c.0 i q cf l) es (both (NoEndBetween h k) (Contains es) (λ e. NoEndBetween h k e × Contains es e) (λ e n m. (n, m)) es ends (All-contains_itself es)) a;
           },
         )

@@ -1,5 +1,5 @@
 use Rattle.std.proofs.Common.{◌∙◌, sym, ap, Vec, Global}
-use Rattle.plane_edge.specs.Rings.{Outline}
+use Rattle.coverage_check.specs.Kept.{OddArea}
 use Rattle.coverage_check.proofs.KeptLemmas.{kept_yes, kept_no}
 use Rattle.coverage_check.proofs.kept.keep.Goals as goal
 use Rattle.coverage_check.proofs.kept.keep.Goals.{then-has_edge+in_ok-push, else-has_edge}
@@ -12,8 +12,8 @@ loop-area-preserved c =
     elim c.if-has_edge.branch [
       | then-has_edge+in_ok-push w ↦
           kept_yes c.args.areas.now i a o c.loop-area.kept.items c.if-has_edge.kept.items c.loop-area-test.true c.area-item.is c.in_ok-odd.ensures (sym c.has_edge.ensures.value ∙ w.if-has_edge.true) c.has_edge.ensures.rising c.has_edge.ensures.even
-          c.loop-area.invariant (ap (λ (v : Vec Outline Global). v.items) w.kept-is ∙ w.in_ok-push.ensures.items)
+          c.loop-area.invariant (ap (λ (v : Vec OddArea Global). v.items) w.kept-is ∙ w.in_ok-push.ensures.items)
       | else-has_edge w ↦
           kept_no c.args.areas.now i a o c.loop-area.kept.items c.if-has_edge.kept.items c.loop-area-test.true c.area-item.is c.in_ok-odd.ensures (sym c.has_edge.ensures.value ∙ w.if-has_edge.false)
-          c.loop-area.invariant (ap (λ (v : Vec Outline Global). v.items) w.kept-is)
+          c.loop-area.invariant (ap (λ (v : Vec OddArea Global). v.items) w.kept-is)
     ]

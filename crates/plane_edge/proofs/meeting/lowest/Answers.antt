@@ -13,14 +13,14 @@ returns c =
     let fx : FitsSigned w128 spot.x = search rules in
     let fy : FitsSigned w128 spot.y = search rules in
     let fm : FitsSigned w128 spot.m = search rules in
-    let gx : FitsSigned w128 c.divided-x.result = record { sfits = c.divided-x.type_inv } in
-    let gy : FitsSigned w128 c.divided-y.result = record { sfits = c.divided-y.type_inv } in
-    let gm : FitsSigned w128 c.divided-m.result = record { sfits = c.divided-m.type_inv } in
+    let gx : FitsSigned w128 c.quotient-x.result = record { sfits = c.quotient-x.type_inv } in
+    let gy : FitsSigned w128 c.quotient-y.result = record { sfits = c.quotient-y.type_inv } in
+    let gm : FitsSigned w128 c.quotient-m.result = record { sfits = c.quotient-m.type_inv } in
     let k : IsCommon spot.x spot.y spot.m g = simp to_z-of_z at c.greatest_common-common.ensures in
-    let ex : c.divided-x.result *ℤ pos g ≡ spot.x = simp to_z-of_z at c.divided-x.ensures in
-    let ey : c.divided-y.result *ℤ pos g ≡ spot.y = simp to_z-of_z at c.divided-y.ensures in
-    let em : c.divided-m.result *ℤ pos g ≡ spot.m = simp to_z-of_z at c.divided-m.ensures in
-    let low : Spot = record { x = c.divided-x.result; y = c.divided-y.result; m = c.divided-m.result } in
+    let ex : c.quotient-x.result *ℤ pos g ≡ spot.x = simp to_z-of_z at c.quotient-x.ensures in
+    let ey : c.quotient-y.result *ℤ pos g ≡ spot.y = simp to_z-of_z at c.quotient-y.ensures in
+    let em : c.quotient-m.result *ℤ pos g ≡ spot.m = simp to_z-of_z at c.quotient-m.ensures in
+    let low : Spot = record { x = c.quotient-x.result; y = c.quotient-y.result; m = c.quotient-m.result } in
     record {
       same = simp to_z-of_z (lowest_same spot low g ex ey em);
       real = simp to_z-of_z (lowest_real spot.m low.m g k.positive em c.requires.real);

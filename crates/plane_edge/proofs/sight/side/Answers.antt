@@ -11,8 +11,8 @@ returns c =
     let f2 : FitsSigned w128 c.difference-up.result = record { sfits = c.difference-up.type_inv } in
     let f3 : FitsSigned w128 c.gap-rise.result = record { sfits = c.gap-rise.type_inv } in
     let f4 : FitsSigned w128 c.gap-run.result = record { sfits = c.gap-run.type_inv } in
-    let f5 : FitsSigned w128 c.scaled.result = record { sfits = c.scaled.type_inv } in
-    let f6 : FitsSigned w128 c.scaled-2.result = record { sfits = c.scaled-2.type_inv } in
+    let f5 : FitsSigned w128 c.scale.result = record { sfits = c.scale.type_inv } in
+    let f6 : FitsSigned w128 c.scale-2.result = record { sfits = c.scale-2.type_inv } in
     let edge = c.args.edge.now in
     let spot = c.args.spot.now in
     let g1 : FitsSigned w32 edge.low.x = search rules in
@@ -27,7 +27,7 @@ returns c =
     let e2 = simp to_z-of_z at c.difference-up.ensures.value in
     let e3 = simp to_z-of_z at c.gap-rise.ensures.value in
     let e4 = simp to_z-of_z at c.gap-run.ensures.value in
-    let e5 = simp to_z-of_z at c.scaled.ensures.value in
-    let e6 = simp to_z-of_z at c.scaled-2.ensures.value in
+    let e5 = simp to_z-of_z at c.scale.ensures.value in
+    let e6 = simp to_z-of_z at c.scale-2.ensures.value in
     let k : c.sum_of_products.result ≡ side_of edge spot = simp (e, e1, e2, e3, e4, e5, e6) in
     simp to_z-of_z k

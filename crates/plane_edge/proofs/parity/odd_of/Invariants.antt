@@ -1,6 +1,0 @@
-use Rattle.std.proofs.Common.{◌≡◌, take, fold, []}
-use Rattle.plane_edge.specs.Sweep.{toggled}
-use Rattle.plane_edge.proofs.parity.odd_of.Given as goal
-
-abbrev pub invariant-loop-edge : goal.invariant-loop-edge
-invariant-loop-edge l = l.odd.items ≡ fold toggled [] (take l.edge-index l.edge-items)
