@@ -3,9 +3,8 @@ use Rattle.std.proofs.Common.{◌≡◌, ℕ, ◌+◌, ◌*◌, ◌^◌, ◌<◌
 use Rattle.std.specs.Int.{w128}
 use Rattle.std.proofs.lemmas.Bool.Decides.{nat_tests}
 use Rattle.std.proofs.lemmas.List.{take_more, get_or-map}
-use Rattle.plane_edge.specs.Rings.{Outline, step_count}
 use Rattle.coverage_check.specs.Cover.{odd_of}
-use Rattle.coverage_check.specs.Kept.{odds_of}
+use Rattle.coverage_check.specs.Kept.{OddArea, odds_of, odd_edge_count}
 use Rattle.coverage_check.specs.Parts.{IsOddPart}
 use Rattle.std.proofs.lemmas.List.Sums.{sum_by_more, sum_by_more_le}
 use Rattle.whole_ring.proofs.Signs.{within}
@@ -229,12 +228,12 @@ border_more wide high odds n es owner old new q s o before h = go (eqb q.b n) re
         h ∙ ap (λ (b : Bool). cond b (border_sum wide high owner es q.a) old) k ∙ before
         ∙ sym (ap (λ (b : Bool). cond b (sum_at q.b) None) (lt_more_not q.b n k))
 
-pub steps_more : (areas : List Outline) (n : ℕ) → n < length areas → step_count (take (n + 1) areas) ≡ step_count (take n areas) + length (odd_of (odds_of areas) n)
-steps_more areas n h =
-    let d : Outline = record { class = []; steps = [] } in
-    sum_by_more (λ (a : Outline). length a.steps) areas n d h ∙ ap (λ (m : ℕ). step_count (take n areas) + m) (sym (ap length (get_or-map (λ (a : Outline). a.steps) areas n d [] h)))
+pub edges_more : (areas : List OddArea) (n : ℕ) → n < length areas → odd_edge_count (take (n + 1) areas) ≡ odd_edge_count (take n areas) + length (odd_of (odds_of areas) n)
+edges_more areas n h =
+    let d : OddArea = record { class = []; odd_edges = [] } in
+    sum_by_more (λ (a : OddArea). length a.odd_edges) areas n d h ∙ ap (λ (m : ℕ). odd_edge_count (take n areas) + m) (sym (ap length (get_or-map (λ (a : OddArea). a.odd_edges) areas n d [] h)))
 
-pub area_part : (areas : List Outline) (n : ℕ) → All IsOddPart areas → n < length areas → IsRisingEdges (odd_of (odds_of areas) n)
+pub area_part : (areas : List OddArea) (n : ℕ) → All IsOddPart areas → n < length areas → IsRisingEdges (odd_of (odds_of areas) n)
 area_part areas n h l =
-    let d : Outline = record { class = []; steps = [] } in
-    subst (λ (es : List Edge). IsRisingEdges es) (sym (get_or-map (λ (a : Outline). a.steps) areas n d [] l)) (h n d l).rising
+    let d : OddArea = record { class = []; odd_edges = [] } in
+    subst (λ (es : List Edge). IsRisingEdges es) (sym (get_or-map (λ (a : OddArea). a.odd_edges) areas n d [] l)) (h n d l).rising

@@ -5,9 +5,9 @@ use Rattle.std.proofs.lemmas.Int.{ints}
 use Rattle.plane_edge.specs.Coordinate.{IsCoordinate}
 use Rattle.plane_edge.specs.declared.point.Point.{Point}
 use Rattle.plane_edge.specs.declared.edge.Edge.{Edge}
-use Rattle.plane_edge.specs.Rings.{Outline}
-use Rattle.class_table.specs.Classes.{Classes}
+use Rattle.class_table.specs.Table.{Table}
 use Rattle.area_graph.specs.Problems.{class_in, IsOwn, IsLeastLight}
+use Rattle.coverage_check.specs.Kept.{OddArea}
 
 pub minus_one : IsCoordinate (negsuc 0)
 minus_one = record { least = omega (arith, ints); most = omega (arith, ints) }
@@ -29,10 +29,10 @@ left = record {
 abbrev wood : List ℕ
 wood = 119 ∷ []
 
-abbrev map_of_one : List Outline
-map_of_one = record { class = wood; steps = left ∷ [] } ∷ []
+abbrev map_of_one : List OddArea
+map_of_one = record { class = wood; odd_edges = left ∷ [] } ∷ []
 
-abbrev table_of_one : Classes
+abbrev table_of_one : Table
 table_of_one = record { wide = 1; high = 1; border = 0; names = wood ∷ []; threshold = pos 0 ∷ []; distance = 0 ∷ [] }
 
 pub one_light_area : IsLeastLight map_of_one table_of_one 0 (negsuc 1)

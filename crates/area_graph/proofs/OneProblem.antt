@@ -3,12 +3,11 @@ use Rattle.std.proofs.Common.{◌≡◌, ℕ, ◌<◌, List, length, get_or, sym
 use Rattle.std.proofs.lemmas.List.{ext_get_or, get_or_default}
 use Rattle.std.proofs.lemmas.Bool.{cases_lt}
 use Rattle.whole_ring.proofs.Signs.{lin}
-use Rattle.plane_edge.specs.Rings.{Outline}
 use Rattle.plane_edge.specs.declared.edge.Edge.{Edge}
 use Rattle.coverage_check.specs.Cover.{odd_of}
-use Rattle.coverage_check.specs.Kept.{odds_of}
-use Rattle.class_table.specs.Classes.{Classes, IsClasses}
-use Rattle.agg_model.specs.Plan.{Plan}
+use Rattle.coverage_check.specs.Kept.{OddArea, odds_of}
+use Rattle.class_table.specs.Table.{Table, IsTable}
+use Rattle.agg_model.specs.Problem.{Problem}
 use Rattle.agg_model.specs.Rules.{IsBelow, link_in}
 use Rattle.agg_model.specs.declared.problem.Link.{Link}
 use Rattle.area_graph.specs.Lengths.{AreLinksOf, common_length}
@@ -18,7 +17,7 @@ use Rattle.area_graph.proofs.OneLists.{one_list}
 
 -- ---- classes
 -- a name names one class
-one_own : (t : Classes) (name : List ℕ) (j k : ℕ) → IsClasses t → IsOwn t name j → IsOwn t name k → j ≡ k
+one_own : (t : Table) (name : List ℕ) (j k : ℕ) → IsTable t → IsOwn t name j → IsOwn t name k → j ≡ k
 one_own t name j k classes h l =
     elim (cases_lt j k) [
       | inl before ↦ absurd (classes.apart j k before l.0 (h.1 ∙ sym l.1))
@@ -29,13 +28,13 @@ one_own t name j k classes h l =
           ]
     ]
 
-one_owns : (os : List Outline) (t : Classes) (a b : List ℕ) → IsClasses t → AreOwn os t a → AreOwn os t b → a ≡ b
+one_owns : (os : List OddArea) (t : Table) (a b : List ℕ) → IsTable t → AreOwn os t a → AreOwn os t b → a ≡ b
 one_owns os t a b classes h k = ext_get_or 0 a b (h.one_each ∙ sym k.one_each) (λ v l.
     let within : v < length os = subst (λ (n : ℕ). v < n) h.one_each l in
     one_own t (class_in os v) (get_or a v 0) (get_or b v 0) classes (h.named v within) (k.named v within))
 
 -- ---- weights
-one_weights : (os : List Outline) (t : Classes) (a b : List ℤ) → AreWeights os t a → AreWeights os t b → a ≡ b
+one_weights : (os : List OddArea) (t : Table) (a b : List ℤ) → AreWeights os t a → AreWeights os t b → a ≡ b
 one_weights os t a b h k = ext_get_or (pos 0) a b (h.one_each ∙ sym k.one_each) (λ v l.
     let within : v < length os = subst (λ (n : ℕ). v < n) h.one_each l in
     h.value v within ∙ sym (k.value v within))
@@ -74,7 +73,7 @@ one_links wide high odds ls ms h k =
     one_list IsBelow below_one_way ls ms h.rising k.rising (also_link wide high odds ls ms h k) (also_link wide high odds ms ls k h)
 
 -- ---- problems
-plan_is : (p q : Plan) → p.classes ≡ q.classes → p.own ≡ q.own → p.weight ≡ q.weight → p.links ≡ q.links → p.distance ≡ q.distance → p.threshold ≡ q.threshold → p.border ≡ q.border → p ≡ q
+plan_is : (p q : Problem) → p.classes ≡ q.classes → p.own ≡ q.own → p.weight ≡ q.weight → p.links ≡ q.links → p.distance ≡ q.distance → p.threshold ≡ q.threshold → p.border ≡ q.border → p ≡ q
 plan_is p q classes own weight links distance threshold border =
     ap (λ (x : ℕ). record p { classes = x }) classes
     ∙ ap (λ (x : List ℕ). record p { classes = q.classes; own = x }) own
@@ -97,7 +96,7 @@ unknown_law os t v p h k =
 not_light : (z : ℤ) → z <ℤ pos 1 → ¬ (pos 1 ≤ℤ z)
 not_light z h k = omega (arith, lin)
 
-light_not_heavy : (os : List Outline) (t : Classes) (v : ℕ) (sum : ℤ) → IsFirstLight os t v sum → ¬ (pos 1 ≤ℤ weight_in os t v)
+light_not_heavy : (os : List OddArea) (t : Table) (v : ℕ) (sum : ℤ) → IsFirstLight os t v sum → ¬ (pos 1 ≤ℤ weight_in os t v)
 light_not_heavy os t v sum h = not_light (weight_in os t v) (subst (λ (z : ℤ). z <ℤ pos 1) h.value h.light)
 
 pub light_law : LightLaw
@@ -110,7 +109,7 @@ one_least u v h k =
       | inr after ↦ elim (cases_lt v u) [ inl before ↦ absurd (k before) | inr same ↦ omega arith ]
     ]
 
-unknown_not_before : (os : List Outline) (t : Classes) (u v : ℕ) → IsLeastUnknown os t u → IsLeastUnknown os t v → ¬ (u < v)
+unknown_not_before : (os : List OddArea) (t : Table) (u v : ℕ) → IsLeastUnknown os t u → IsLeastUnknown os t v → ¬ (u < v)
 unknown_not_before os t u v h k before =
     let own = k.least u before in
     h.unknown own.0 own.1.0 own.1.1
@@ -118,7 +117,7 @@ unknown_not_before os t u v h k before =
 pub one_unknown_law : OneUnknownLaw
 one_unknown_law os t u v h k = one_least u v (unknown_not_before os t u v h k) (unknown_not_before os t v u k h)
 
-light_not_before : (os : List Outline) (t : Classes) (u v : ℕ) (a b : ℤ) → IsFirstLight os t u a → IsFirstLight os t v b → ¬ (u < v)
+light_not_before : (os : List OddArea) (t : Table) (u v : ℕ) (a b : ℤ) → IsFirstLight os t u a → IsFirstLight os t v b → ¬ (u < v)
 light_not_before os t u v a b h k before = light_not_heavy os t u a h (k.least u before)
 
 pub one_light_law : OneLightLaw

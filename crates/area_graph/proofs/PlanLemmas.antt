@@ -9,19 +9,18 @@ use Rattle.whole_ring.specs.Sums.{sum_below}
 use Rattle.whole_ring.proofs.Signs.{lin, within}
 use Rattle.whole_ring.proofs.Sizes.{abs-mul}
 use Rattle.plane_edge.specs.declared.edge.Edge.{Edge}
-use Rattle.plane_edge.specs.Rings.{Outline, step_count}
 use Rattle.coverage_check.specs.Cover.{odd_of}
-use Rattle.coverage_check.specs.Kept.{odds_of}
+use Rattle.coverage_check.specs.Kept.{OddArea, odds_of, odd_edge_count}
 use Rattle.coverage_check.specs.Checked.{IsChecked}
-use Rattle.class_table.specs.Classes.{Classes, IsClasses}
-use Rattle.agg_model.specs.Plan.{Plan, IsPlan, areas, weight_of, length_of}
+use Rattle.class_table.specs.Table.{Table, IsTable}
+use Rattle.agg_model.specs.Problem.{Problem, IsProblem, areas, weight_of, length_of}
 use Rattle.agg_model.specs.Rules.{link_in}
 use Rattle.area_graph.specs.Lengths.{common_length, edge_length, is_among}
 use Rattle.area_graph.specs.Weights.{weight_of_edges, sum_over, signed_term}
 use Rattle.area_graph.specs.Problems.{IsProblemOf}
 use Rattle.area_graph.proofs.LengthLemmas.{edge_length_small}
 use Rattle.area_graph.proofs.WeightLemmas.{sum_over-size, term_size, few_of}
-use Rattle.area_graph.proofs.BorderLemmas.{steps_more}
+use Rattle.area_graph.proofs.BorderLemmas.{edges_more}
 use Rattle.area_graph.proofs.ListedLemmas.{there}
 
 -- ---- how much all areas weigh
@@ -42,12 +41,12 @@ weight_size wide high es w h =
         go : (n : ℕ) → n ≤ 100 * 100 → unsigned_abs (pos n) ≤ 10000
         go n l = omega (arith, within)
 
-all_weights_size : (os : List Outline) (f : ℕ → ℤ) (n : ℕ) → n ≤ length os → ((v : ℕ) → v < n → f v ≤ℤ pos (10000 * (2 ^ 62 * length (odd_of (odds_of os) v)))) → sum_below n f ≤ℤ pos (10000 * (2 ^ 62 * step_count (take n os)))
+all_weights_size : (os : List OddArea) (f : ℕ → ℤ) (n : ℕ) → n ≤ length os → ((v : ℕ) → v < n → f v ≤ℤ pos (10000 * (2 ^ 62 * length (odd_of (odds_of os) v)))) → sum_below n f ≤ℤ pos (10000 * (2 ^ 62 * odd_edge_count (take n os)))
 all_weights_size os f zero l h = omega (arith, lin)
 all_weights_size os f (suc n) l h =
     let rest = all_weights_size os f n (omega arith) (λ v k. h v (omega arith)) in
     let here = h n (omega arith) in
-    let more : step_count (take (suc n) os) ≡ step_count (take n os) + length (odd_of (odds_of os) n) = subst (λ (m : ℕ). step_count (take m os) ≡ step_count (take n os) + length (odd_of (odds_of os) n)) (add-one n) (steps_more os n (omega arith)) in
+    let more : odd_edge_count (take (suc n) os) ≡ odd_edge_count (take n os) + length (odd_of (odds_of os) n) = subst (λ (m : ℕ). odd_edge_count (take m os) ≡ odd_edge_count (take n os) + length (odd_of (odds_of os) n)) (add-one n) (edges_more os n (omega arith)) in
     omega (arith, lin, rest, here, more)
 
 -- ---- how long all links are
@@ -79,15 +78,15 @@ small_enough w l s n h k p q =
     tenth : (z : ℤ) → z ≤ℤ pos (10000 * (2 ^ 62 * 2097152) + 2 ^ 68 * 1048576) → (pos 10000 *ℤ z) <ℤ pos (2 ^ 110)
     tenth z h = omega (arith, ints)
 
-whole_take : (os : List Outline) (n : ℕ) → n ≡ length os → step_count (take n os) ≡ step_count os
-whole_take os n h = ap step_count (ap (λ (m : ℕ). take m os) h ∙ take-length os)
+whole_take : (os : List OddArea) (n : ℕ) → n ≡ length os → odd_edge_count (take n os) ≡ odd_edge_count os
+whole_take os n h = ap odd_edge_count (ap (λ (m : ℕ). take m os) h ∙ take-length os)
 
-pub plan_of : (os : List Outline) (t : Classes) (p : Plan) → IsChecked os → IsClasses t → IsProblemOf os t p → length p.links ≤ 1048576 → IsPlan p
+pub plan_of : (os : List OddArea) (t : Table) (p : Problem) → IsChecked os → IsTable t → IsProblemOf os t p → length p.links ≤ 1048576 → IsProblem p
 plan_of os t p checked table is few =
     let n : areas p ≡ length os = is.own.one_each in
     let k = is.classes in
     let w : length p.weight ≡ areas p = is.weight.one_each ∙ sym n in
-    let edges : length (odds_of os) ≡ length os = length-map os (λ (a : Outline). a.steps) in
+    let edges : length (odds_of os) ≡ length os = length-map os (λ (a : OddArea). a.odd_edges) in
     record {
       some_class = omega (arith, k, table.some);
       few_classes = omega (arith, k, table.few);
@@ -106,7 +105,7 @@ plan_of os t p checked table is few =
       threshold_least = λ j h. subst (λ (x : List ℤ). pos 0 ≤ℤ get_or x j (pos 0)) (sym is.threshold) (table.threshold_least j (omega (arith, k, h)));
       threshold_most = λ j h. subst (λ (x : List ℤ). get_or x j (pos 0) ≤ℤ pos (10 ^ 30)) (sym is.threshold) (table.threshold_most j (omega (arith, k, h)));
       cheap = subst (λ (b : ℕ). b ≤ 10000) (sym is.border) table.cheap;
-      small = small_enough (sum_below (areas p) (weight_of p)) (sum_below (length p.links) (length_of p)) (step_count (take (areas p) os)) (length p.links)
+      small = small_enough (sum_below (areas p) (weight_of p)) (sum_below (length p.links) (length_of p)) (odd_edge_count (take (areas p) os)) (length p.links)
           (all_weights_size os (weight_of p) (areas p) (omega (arith, n)) (λ v h. subst (λ (z : ℤ). z ≤ℤ pos (10000 * (2 ^ 62 * length (odd_of (odds_of os) v)))) (sym (is.weight.value v (omega (arith, n, h)))) (weight_size t.wide t.high (odd_of (odds_of os) v) table.wide_most table.high_most)))
           (all_lengths_size (length_of p) (length p.links) (λ l h. link_short l h))
           (omega (arith, whole_take os (areas p) n, checked.few_edges))
@@ -125,7 +124,7 @@ plan_of os t p checked table is few =
         let b = (link_in p.links l).b in
         let e = is.links.touch l h in
         let in_range = there (odds_of os) b e.edge e.in_b in
-        let long : length (odds_of os) ≡ length os = length-map os (λ (a : Outline). a.steps) in
+        let long : length (odds_of os) ≡ length os = length-map os (λ (a : OddArea). a.odd_edges) in
         let fs = odd_of (odds_of os) b in
         let f : length fs ≤ 2097152 = few_of os b 2097152 (omega (arith, in_range, long)) checked.few_edges in
         let c = common_size t.wide t.high (odd_of (odds_of os) (link_in p.links l).a) fs table.wide_most table.high_most in

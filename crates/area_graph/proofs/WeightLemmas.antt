@@ -5,9 +5,8 @@ use Rattle.std.specs.Int.{w128}
 use Rattle.std.proofs.lemmas.List.{take_more, length-take-le, get_or-map}
 use Rattle.std.proofs.lemmas.List.Sums.{get_or-le-sum_by}
 use Rattle.std.proofs.lemmas.Int.{fits_signed_mul}
-use Rattle.plane_edge.specs.Rings.{Outline, step_count}
 use Rattle.coverage_check.specs.Cover.{odd_of}
-use Rattle.coverage_check.specs.Kept.{odds_of}
+use Rattle.coverage_check.specs.Kept.{OddArea, odds_of, odd_edge_count}
 use Rattle.whole_ring.proofs.Sizes.{abs-mul}
 use Rattle.plane_edge.specs.Coordinate.{IsCoordinate}
 use Rattle.whole_ring.proofs.Ring.{ring, var, con, ◌⊕◌, ◌⊖◌, ◌⊗◌}
@@ -15,7 +14,7 @@ use Rattle.whole_ring.proofs.Signs.{lin, within}
 use Rattle.plane_edge.specs.declared.edge.Edge.{Edge}
 use Rattle.plane_edge.specs.Edges.{is_same_edge}
 use Rattle.plane_edge.specs.Middle.{middle_of}
-use Rattle.plane_edge.specs.Plane.{crosses, side_of, rise, IsInside}
+use Rattle.plane_edge.specs.Plane.{is_crossed, side_of, rise, IsInside}
 use Rattle.plane_edge.proofs.OrderLemmas.{same_edges_equal}
 use Rattle.plane_edge.proofs.EvenLists.{count-cons}
 use Rattle.edge_rows.specs.Beside.{AreCrossedAlike}
@@ -51,20 +50,20 @@ and-false true = refl
 and-false false = refl
 
 -- so the ray from there does not cross the edge itself
-not_own : (e : Edge) → crosses e (middle_of e) ≡ false
+not_own : (e : Edge) → is_crossed e (middle_of e) ≡ false
 not_own e = rw (own_side e) (and-false _)
 
-pub all_others : (e : Edge) (es : List Edge) → others_crossed es e ≡ count_by (λ f. crosses f (middle_of e)) es
+pub all_others : (e : Edge) (es : List Edge) → others_crossed es e ≡ count_by (λ f. is_crossed f (middle_of e)) es
 all_others e [] = refl
 all_others e (f ∷ es) =
-    count-cons (λ f. not (is_same_edge e f) && crosses f (middle_of e)) f es
-    ∙ ap (λ n. cond (not (is_same_edge e f) && crosses f (middle_of e)) 1 0 + n) (all_others e es)
-    ∙ ap (λ b. cond b 1 0 + count_by (λ f. crosses f (middle_of e)) es) (same (is_same_edge e f) refl)
-    ∙ sym (count-cons (λ f. crosses f (middle_of e)) f es)
+    count-cons (λ f. not (is_same_edge e f) && is_crossed f (middle_of e)) f es
+    ∙ ap (λ n. cond (not (is_same_edge e f) && is_crossed f (middle_of e)) 1 0 + n) (all_others e es)
+    ∙ ap (λ b. cond b 1 0 + count_by (λ f. is_crossed f (middle_of e)) es) (same (is_same_edge e f) refl)
+    ∙ sym (count-cons (λ f. is_crossed f (middle_of e)) f es)
   where
-    same : (b : Bool) → is_same_edge e f ≡ b → (not b && crosses f (middle_of e)) ≡ crosses f (middle_of e)
+    same : (b : Bool) → is_same_edge e f ≡ b → (not b && is_crossed f (middle_of e)) ≡ is_crossed f (middle_of e)
     same false h = refl
-    same true h = sym (subst (λ (g : Edge). crosses g (middle_of e) ≡ false) (same_edges_equal e f h) (not_own e))
+    same true h = sym (subst (λ (g : Edge). is_crossed g (middle_of e) ≡ false) (same_edges_equal e f h) (not_own e))
 
 halves : (n : ℕ) → (n % 2 ≡ 0) ⊎ (n % 2 ≡ 1)
 halves n = grind arith
@@ -77,9 +76,9 @@ pub term_is : (es : List Edge) (e : Edge) (inside : Bool) (v r : ℤ) → (IsTru
 term_is es e true v r h s q =
     let o : others_crossed es e % 2 ≡ 1 = ap (λ (n : ℕ). n % 2) (all_others e es) ∙ h.0 refl in
     rw o (q ∙ ap (λ z. pos 0 -ℤ z) s)
-term_is es e false v r h s q = go (halves (count_by (λ f. crosses f (middle_of e)) es))
+term_is es e false v r h s q = go (halves (count_by (λ f. is_crossed f (middle_of e)) es))
   where
-    go : (count_by (λ f. crosses f (middle_of e)) es % 2 ≡ 0) ⊎ (count_by (λ f. crosses f (middle_of e)) es % 2 ≡ 1) → r ≡ signed_term es e
+    go : (count_by (λ f. is_crossed f (middle_of e)) es % 2 ≡ 0) ⊎ (count_by (λ f. is_crossed f (middle_of e)) es % 2 ≡ 1) → r ≡ signed_term es e
     go (inl k) =
         let o : others_crossed es e % 2 ≡ 0 = ap (λ (n : ℕ). n % 2) (all_others e es) ∙ k in
         rw o (q ∙ s)
@@ -119,11 +118,11 @@ pub whole_fits : (n : ℕ) (s : ℤ) → n ≤ 10000 → unsigned_abs s ≤ 2 ^ 
 whole_fits n s h k = fits_signed_mul w128 (pos n) s 10000 (2 ^ 83) (omega (arith, within)) k (lit< tt)
 
 -- an area's edges are some of all
-pub few_of : (areas : List Outline) (v : ℕ) (m : ℕ) → v < length areas → step_count areas ≤ m → length (odd_of (odds_of areas) v) ≤ m
+pub few_of : (areas : List OddArea) (v : ℕ) (m : ℕ) → v < length areas → odd_edge_count areas ≤ m → length (odd_of (odds_of areas) v) ≤ m
 few_of areas v m h k =
-    let d : Outline = record { class = []; steps = [] } in
-    let one = get_or-le-sum_by (λ (a : Outline). length a.steps) areas v d h in
-    let same = ap length (get_or-map (λ (a : Outline). a.steps) areas v d [] h) in
+    let d : OddArea = record { class = []; odd_edges = [] } in
+    let one = get_or-le-sum_by (λ (a : OddArea). length a.odd_edges) areas v d h in
+    let same = ap length (get_or-map (λ (a : OddArea). a.odd_edges) areas v d [] h) in
     omega (arith, one, same, k)
 
 -- ---- edges that every spot crosses alike

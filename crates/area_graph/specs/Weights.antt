@@ -3,11 +3,11 @@ use Rattle.std.specs.Prelude.{ℕ, ◌*◌, ◌%◌, ◌&&◌, not, eqb, if◌th
 use Rattle.plane_edge.specs.declared.edge.Edge.{Edge}
 use Rattle.plane_edge.specs.Edges.{is_same_edge}
 use Rattle.plane_edge.specs.Middle.{middle_of}
-use Rattle.plane_edge.specs.Plane.{crosses, rise}
+use Rattle.plane_edge.specs.Plane.{is_crossed, rise}
 
 -- how many of the other edges the ray from the edge's middle to the right crosses
 abbrev pub others_crossed : List Edge → Edge → ℕ
-others_crossed es e = count_by (λ f. not (is_same_edge e f) && crosses f (middle_of e)) es
+others_crossed es e = count_by (λ f. not (is_same_edge e f) && is_crossed f (middle_of e)) es
 
 -- twice what lies between the edge and the axis, a level edge none
 abbrev pub swept : Edge → ℤ

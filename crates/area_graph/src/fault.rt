@@ -1,4 +1,4 @@
-//! Why a map and a table make no problem.
+// Why a map and a table make no problem.
 ghost use Rattle.std.specs.Prelude.{◌≡◌};
 
 use agg_base::NoMemory;
@@ -14,7 +14,7 @@ pub enum GraphFault {
     /// All classes are known, and this area weighs less than 1: `sum`, in twice the square unit. No lesser area is such.
     #[error("area {area} weighs {sum}")]
     NoWeight { area: u32, sum: i128 },
-    /// Memory is wanting.
+    /// Memory ran out.
     #[error("out of memory")]
     Memory,
 }

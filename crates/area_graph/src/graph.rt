@@ -1,5 +1,8 @@
-//! The problem of a checked map and a class table.
+// The problem of a checked map and a class table.
 ghost use Rattle.std.specs.Prelude.{◌≡◌, ◌≤◌, ℕ, ℤ, length, IfOk};
+ghost use Rattle.agg_base.specs.declared.limits.TheConstants.{LINKS};
+ghost use Rattle.class_table.specs.Table.{IsTable};
+ghost use Rattle.coverage_check.specs.Checked.{IsChecked};
 ghost use Rattle.area_graph.specs.Problems.{IsProblemOf, IsLeastUnknown, IsLeastLight};
 
 use crate::borders::links;
@@ -12,11 +15,10 @@ use class_table::Table;
 use coverage_check::Checked;
 use std::alloc::Global;
 
-/// The distances of the table, row by row.
+// The distances of the table, row by row.
 fn distances(alloc: Global, table: &Table) -> Result<Vec<u32>, NoMemory>
     ensures { IfOk result (λ items. items.items ≡ table.now.distance) }
 {
-    table.rules();
     let classes = table.names().len();
     let mut items = Vec::new(alloc);
     for at in 0..classes * classes {
@@ -25,11 +27,10 @@ fn distances(alloc: Global, table: &Table) -> Result<Vec<u32>, NoMemory>
     Ok(items)
 }
 
-/// The thresholds of the table, by class.
+// The thresholds of the table, by class.
 fn thresholds(alloc: Global, table: &Table) -> Result<Vec<i128>, NoMemory>
     ensures { IfOk result (λ items. items.items ≡ table.now.threshold) }
 {
-    table.rules();
     let mut items = Vec::new(alloc);
     for class in 0..table.names().len() {
         items.push(table.threshold(class as u8))?;
@@ -37,14 +38,15 @@ fn thresholds(alloc: Global, table: &Table) -> Result<Vec<i128>, NoMemory>
     Ok(items)
 }
 
-/// The parts of the problem.
+// The parts of the problem.
 fn parts_of(alloc: Global, checked: &Checked, table: &Table) -> Result<ProblemParts, GraphFault>
     ensures found { IfOk result (λ p. IsProblemOf checked.now.areas table.now p) }
     ensures unknown { (v : ℕ) → result ≡ Err (GraphFault.UnknownClass v) → IsLeastUnknown checked.now.areas table.now v }
     ensures light { (v : ℕ) (s : ℤ) → result ≡ Err (GraphFault.NoWeight v s) → IsLeastLight checked.now.areas table.now v s }
-    ensures few { IfOk result (λ p. length p.links ≤ 1048576) }
+    ensures few { IfOk result (λ p. length p.links ≤ LINKS) }
+    ensures rules { IfOk result (λ p. IsTable table.now) }
+    ensures checked { IsChecked checked.now.areas }
 {
-    table.rules();
     let own = own_classes(alloc, checked, table)?;
     let weight = weights(alloc, checked, table)?;
     Ok(ProblemParts {
@@ -75,8 +77,6 @@ pub fn problem_of(alloc: Global, checked: &Checked, table: &Table) -> Result<Pro
     ensures unknown { (v : ℕ) → result ≡ Err (GraphFault.UnknownClass v) → IsLeastUnknown checked.now.areas table.now v }
     ensures light { (v : ℕ) (s : ℤ) → result ≡ Err (GraphFault.NoWeight v s) → IsLeastLight checked.now.areas table.now v s }
 {
-    checked.rules();
-    table.rules();
     let parts = parts_of(alloc, checked, table)?;
     match Problem::of(parts) {
         Some(problem) => Ok(problem),

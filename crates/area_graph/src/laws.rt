@@ -1,4 +1,4 @@
-//! Laws of the problem of a checked map and a class table, and of what stands in its place.
+// Laws of the problem of a checked map and a class table, and of what stands in its place.
 ghost use Rattle.area_graph.specs.GraphLaws.{OneProblemLaw, UnknownLaw, LightLaw, OneUnknownLaw, OneLightLaw, UnknownNotLightLaw};
 
 /// A map and a table have one problem at most.

@@ -1,5 +1,6 @@
-//! How long an edge is.
+// How long an edge is.
 ghost use Rattle.std.specs.Prelude.{◌≡◌, ◌≤◌, ◌*◌, ◌^◌, pos, unsigned_abs};
+ghost use Rattle.class_table.specs.Table.{IsTable};
 ghost use Rattle.area_graph.specs.Lengths.{stretched, edge_length};
 
 use agg_base::isqrt;
@@ -20,13 +21,14 @@ impl Unit {
     pub fn of(table: &Table) -> Unit
         ensures wide { result.wide ≡ table.now.wide }
         ensures high { result.high ≡ table.now.high }
+        ensures rules { IsTable table.now }
     {
         let (wide, high) = table.unit();
         Unit { wide, high }
     }
 }
 
-/// The square of a difference of coordinates times its factor.
+// The square of a difference of coordinates times its factor.
 fn square_of(factor: u32, gap: i128) -> u128
     requires factor { factor ≤ 100 }
     requires gap { unsigned_abs gap ≤ 2 ^ 31 }

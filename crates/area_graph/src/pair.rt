@@ -1,4 +1,4 @@
-//! Pairs of areas.
+// Pairs of areas.
 
 /// Two areas, the lesser first. Pairs are ordered by the lesser area, then by the greater one.
 #[derive(Clone, Copy, Debug, PartialEq, Eq, PartialOrd, Ord)]

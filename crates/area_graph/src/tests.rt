@@ -1,6 +1,3 @@
-ghost use Rattle.std.specs.Prelude.{◌≤◌, IsTrue};
-ghost use Rattle.plane_edge.specs.Rings.{step_count};
-
 use super::{GraphFault, problem_of};
 use agg_base::Text;
 use agg_model::{Link, Problem};
@@ -14,7 +11,7 @@ use std::test::Fail;
 
 type Ring<'a> = &'a [[i64; 2]];
 
-/// The ring of some corners.
+// The ring of some corners.
 fn ring(rt: &impl Abort, alloc: Global, corners: Ring<'_>) -> Result<Vec<Point>, Fail> {
     let mut ring = Vec::new(alloc);
     for [x, y] in corners {
@@ -23,7 +20,7 @@ fn ring(rt: &impl Abort, alloc: Global, corners: Ring<'_>) -> Result<Vec<Point>,
     Ok(ring)
 }
 
-/// The area of some rings.
+// The area of some rings.
 fn area(rt: &impl Abort, alloc: Global, class: &str, outlines: &[Ring<'_>]) -> Result<Area, Fail> {
     let mut rings = Vec::new(alloc);
     for corners in outlines {
@@ -32,38 +29,16 @@ fn area(rt: &impl Abort, alloc: Global, class: &str, outlines: &[Ring<'_>]) -> R
     Ok(Area::of_rings(alloc, Text::of(alloc, class)?, &rings)?)
 }
 
-/// Whether the areas have few enough steps for a coverage.
-fn are_few(areas: &[Area]) -> bool
-    ensures { IsTrue result → step_count areas.now ≤ 2097152 }
-{
-    let mut total = 0;
-    for area in areas {
-        let steps = area.steps().len();
-        if steps > 2_097_152 - total {
-            return false;
-        }
-        total += steps;
-    }
-    true
-}
-
-/// The checked map of some areas.
+// The checked map of some areas.
 fn checked(rt: &impl Abort, alloc: Global, areas: Vec<Area>) -> Result<Checked, Fail> {
-    assert!(rt; areas.len() <= 65_536);
-    let few = are_few(&areas);
-    assert!(rt; few);
-    let coverage = Coverage {
-        areas,
-        passed: 0,
-        frame: Frame::Plain,
-    };
+    let coverage = Coverage::of(areas, 0, Frame::Plain).expect(rt, "too many areas or steps");
     match check(alloc, coverage, &Alone) {
         Ok(checked) => Ok(checked),
         Err(_) => Err(Fail::new("a fault of the coverage")),
     }
 }
 
-/// The table of a text.
+// The table of a text.
 fn table(rt: &impl Abort, alloc: Global, text: &[u8]) -> Result<Table, Fail> {
     assert!(rt; text.len() <= 1_000_000);
     match read(alloc, text) {
@@ -77,7 +52,7 @@ const PLAIN: &[u8] = b"classes 1\nborder 3\nclass 4 wood\nclass 5 lake\nrow 0 7\
 const STRETCHED: &[u8] =
     b"classes 1\nunit 2 3\nborder 3\nclass 4 wood\nclass 5 lake\nrow 0 7\nrow 8 0\n";
 
-/// What is answered to some areas and a table.
+// What is answered to some areas and a table.
 fn answer(
     rt: &impl Abort,
     alloc: Global,
@@ -89,25 +64,25 @@ fn answer(
     Ok(problem_of(alloc, &map, &table))
 }
 
-/// The problem of some areas and a table.
+// The problem of some areas and a table.
 fn problem(rt: &impl Abort, alloc: Global, areas: Vec<Area>, text: &[u8]) -> Result<Problem, Fail> {
     Ok(answer(rt, alloc, areas, text)?.expect(rt, "a fault"))
 }
 
-/// The weight of an area.
+// The weight of an area.
 fn weight(rt: &impl Abort, problem: &Problem, area: u32) -> i128 {
     assert!(rt; area < problem.areas());
     problem.weight(area)
 }
 
-/// The only link.
+// The only link.
 fn only_link(rt: &impl Abort, problem: &Problem) -> Link {
     let links = problem.links();
     assert_eq!(rt; links.len(), 1);
     links[0]
 }
 
-/// Two unit squares side by side, the left one a lake.
+// Two unit squares side by side, the left one a lake.
 fn two_squares(rt: &impl Abort, alloc: Global, text: &[u8]) -> Result<Problem, Fail> {
     let mut areas = Vec::new(alloc);
     areas.push(area(rt, alloc, "lake", &[&[[0, 0], [1, 0], [1, 1], [0, 1]]])?)?;
@@ -224,7 +199,7 @@ fn areas_without_an_odd_edge_are_passed_over(rt: HostRuntime) -> Result<(), Fail
     Ok(())
 }
 
-/// Takes what another thread may hold.
+// Takes what another thread may hold.
 fn is_shared<T: Send + Sync>(value: &T) {
     let _ = value;
 }

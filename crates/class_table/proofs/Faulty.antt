@@ -6,8 +6,8 @@ use Rattle.text_words.specs.Words.{words, word}
 use Rattle.class_table.specs.Breaks.{SpellsNumber, SpellRow, IsUnitDue, IsBorderDue, IsClassDue, IsRowDue, IsDue, unit_due, border_due, class_due, row_due, BreaksFirst, wrong_version, wrong_words, wrong_factor, wrong_border, class_too_many, wrong_threshold, wrong_name, repeated_name, wrong_count, wrong_distance, far_from_itself}
 use Rattle.class_table.specs.Names.{is_name}
 use Rattle.class_table.specs.Numbers.{number_in}
-use Rattle.class_table.specs.Said.{Said, is_among}
-use Rattle.class_table.specs.Words.{counts, name_in}
+use Rattle.class_table.specs.Content.{Content, is_among}
+use Rattle.class_table.specs.Words.{is_counted, name_in}
 use Rattle.class_table.specs.Reading.{if_number, is_version, version_line, unit_line, border_line, scale_line, named_class, class_line, distances_in, row_line, body_line, due_line, line_says}
 use Rattle.class_table.specs.declared.draft.Due.{Due}
 use Rattle.class_table.specs.declared.draft.Due.TheVariants.{Head, Scale, Border, Body}
@@ -51,23 +51,23 @@ told_apart a b f e = refuted (bytes_eq a b) f (same_bytes a b e)
 first_of : (line head : List ℕ) (rest : List (List ℕ)) → words line ≡ head ∷ rest → word (words line) 0 ≡ head
 first_of line head rest e = ap (λ parts. word parts 0) e
 
-scale_due : (d : Said) (line : List ℕ) → d.due ≡ Scale → IsDue d line → ((x : List ℕ) × (y : List ℕ) × (words line ≡ codes "unit" ∷ x ∷ y ∷ [])) ⊎ ((digits : List ℕ) × (words line ≡ codes "border" ∷ digits ∷ []))
+scale_due : (d : Content) (line : List ℕ) → d.due ≡ Scale → IsDue d line → ((x : List ℕ) × (y : List ℕ) × (words line ≡ codes "unit" ∷ x ∷ y ∷ [])) ⊎ ((digits : List ℕ) × (words line ≡ codes "border" ∷ digits ∷ []))
 scale_due d line due (unit_due x y is) = inl (x, y, is.words_are)
 scale_due d line due (border_due digits is) = inr (digits, is.words_are)
 scale_due d line due (class_due digits is) = absurd (let other : d.due ≡ Body = is.due in cc)
 scale_due d line due (row_due parts is) = absurd (let other : d.due ≡ Body = is.due in cc)
 
-only_border_due : (d : Said) (line : List ℕ) → d.due ≡ Border → IsDue d line → (digits : List ℕ) × (words line ≡ codes "border" ∷ digits ∷ [])
+only_border_due : (d : Content) (line : List ℕ) → d.due ≡ Border → IsDue d line → (digits : List ℕ) × (words line ≡ codes "border" ∷ digits ∷ [])
 only_border_due d line due (unit_due x y is) = absurd (let other : d.due ≡ Scale = is.due in cc)
 only_border_due d line due (border_due digits is) = (digits, is.words_are)
 only_border_due d line due (class_due digits is) = absurd (let other : d.due ≡ Body = is.due in cc)
 only_border_due d line due (row_due parts is) = absurd (let other : d.due ≡ Body = is.due in cc)
 
-no_border_due : (d : Said) → d.due ≡ Body → (d.due ≡ Scale) ⊎ (d.due ≡ Border) → ⊥
+no_border_due : (d : Content) → d.due ≡ Body → (d.due ≡ Scale) ⊎ (d.due ≡ Border) → ⊥
 no_border_due d due (inl scale) = cc
 no_border_due d due (inr border) = cc
 
-body_due : (d : Said) (line : List ℕ) → d.due ≡ Body → IsDue d line → ((digits : List ℕ) × IsClassDue d line digits) ⊎ ((parts : List (List ℕ)) × IsRowDue d line parts)
+body_due : (d : Content) (line : List ℕ) → d.due ≡ Body → IsDue d line → ((digits : List ℕ) × IsClassDue d line digits) ⊎ ((parts : List (List ℕ)) × IsRowDue d line parts)
 body_due d line due (unit_due x y is) = absurd (let other : d.due ≡ Scale = is.due in cc)
 body_due d line due (border_due digits is) = absurd (no_border_due d due is.due)
 body_due d line due (class_due digits is) = inl (digits, is)
@@ -75,26 +75,26 @@ body_due d line due (row_due parts is) = inr (parts, is)
 
 -- the version
 
-version_fault : (d : Said) (n : ℕ) (line : List ℕ) → d.due ≡ Head → IfErr (version_line d n (words line)) (BreaksFirst d n line)
+version_fault : (d : Content) (n : ℕ) (line : List ℕ) → d.due ≡ Head → IfErr (version_line d n (words line)) (BreaksFirst d n line)
 unfolding version_line
-version_fault d n line due = by_choice (λ (r : Result Said TableFault). IfErr r (BreaksFirst d n line)) (is_version (words line)) _ _ (λ t. tt)
+version_fault d n line due = by_choice (λ (r : Result Content TableFault). IfErr r (BreaksFirst d n line)) (is_version (words line)) _ _ (λ t. tt)
     (λ f. wrong_version due (λ is. refuted (is_version (words line)) f (ap is_version is)))
 
 -- the unit and the border
 
-no_unit : (d : Said) (line : List ℕ) → d.due ≡ Scale → word (words line) 0 ≡ codes "unit" → (length (words line) == 3) ≡ false → ¬ IsDue d line
+no_unit : (d : Content) (line : List ℕ) → d.due ≡ Scale → word (words line) 0 ≡ codes "unit" → (length (words line) == 3) ≡ false → ¬ IsDue d line
 no_unit d line due head f is = elim (scale_due d line due is) [
   | inl u ↦ refuted (length (words line) == 3) f (ap (λ parts. length parts == 3) u.2)
   | inr b ↦ told_apart (codes "unit") (codes "border") refl (sym head ∙ first_of line (codes "border") (b.0 ∷ []) b.1)
 ]
 
-unit_fault : (d : Said) (n : ℕ) (line : List ℕ) → d.due ≡ Scale → word (words line) 0 ≡ codes "unit" → IfErr (unit_line d n (words line)) (BreaksFirst d n line)
+unit_fault : (d : Content) (n : ℕ) (line : List ℕ) → d.due ≡ Scale → word (words line) 0 ≡ codes "unit" → IfErr (unit_line d n (words line)) (BreaksFirst d n line)
 unfolding unit_line
 unit_fault d n line due head =
     let parts = words line in
     let x = word parts 1 in
     let y = word parts 2 in
-    let P = λ (r : Result Said TableFault). IfErr r (BreaksFirst d n line) in
+    let P = λ (r : Result Content TableFault). IfErr r (BreaksFirst d n line) in
     by_choice P (length parts == 3) _ _
     (λ t. (let is : IsUnitDue d line x y = record { due = due; words_are = three_words parts (eq_test (length parts) 3 t) ∙ ap (λ w. w ∷ x ∷ y ∷ []) head } in
     by_number P n (number_in 1 100 x) _ (λ none. wrong_factor x y is (λ s. unspelled 1 100 x none s.0))
@@ -104,27 +104,27 @@ unit_fault d n line due head =
 abbrev pub has_border : List (List ℕ) → Bool
 has_border parts = (length parts == 2) && bytes_eq (word parts 0) (codes "border")
 
-border_fault : (d : Said) (n : ℕ) (line : List ℕ) → (d.due ≡ Scale) ⊎ (d.due ≡ Border) → d.due ≢ Head → (has_border (words line) ≡ false → ¬ IsDue d line) → IfErr (border_line d n (words line)) (BreaksFirst d n line)
+border_fault : (d : Content) (n : ℕ) (line : List ℕ) → (d.due ≡ Scale) ⊎ (d.due ≡ Border) → d.due ≢ Head → (has_border (words line) ≡ false → ¬ IsDue d line) → IfErr (border_line d n (words line)) (BreaksFirst d n line)
 unfolding border_line
 border_fault d n line due late other =
     let parts = words line in
     let digits = word parts 1 in
-    let P = λ (r : Result Said TableFault). IfErr r (BreaksFirst d n line) in
+    let P = λ (r : Result Content TableFault). IfErr r (BreaksFirst d n line) in
     by_choice P (has_border parts) _ _
     (λ t. (let tests = both (length parts == 2) (bytes_eq (word parts 0) (codes "border")) t in
     let is : IsBorderDue d line digits = record { due = due; words_are = two_words parts (eq_test (length parts) 2 tests.0) ∙ ap (λ w. w ∷ digits ∷ []) (same_text (word parts 0) (codes "border") tests.1) } in
     by_number P n (number_in 0 10000 digits) _ (λ none. wrong_border digits is (unspelled 0 10000 digits none)) (λ b some. tt)))
     (λ f. wrong_words late (other f))
 
-no_scale : (d : Said) (line : List ℕ) → d.due ≡ Scale → bytes_eq (word (words line) 0) (codes "unit") ≡ false → has_border (words line) ≡ false → ¬ IsDue d line
+no_scale : (d : Content) (line : List ℕ) → d.due ≡ Scale → bytes_eq (word (words line) 0) (codes "unit") ≡ false → has_border (words line) ≡ false → ¬ IsDue d line
 no_scale d line due unit border is = elim (scale_due d line due is) [
   | inl u ↦ refuted (bytes_eq (word (words line) 0) (codes "unit")) unit (same_bytes _ _ (first_of line (codes "unit") (u.0 ∷ u.1 ∷ []) u.2))
   | inr b ↦ refuted (has_border (words line)) border (ap has_border b.1)
 ]
 
-scale_fault : (d : Said) (n : ℕ) (line : List ℕ) → d.due ≡ Scale → IfErr (scale_line d n (words line)) (BreaksFirst d n line)
+scale_fault : (d : Content) (n : ℕ) (line : List ℕ) → d.due ≡ Scale → IfErr (scale_line d n (words line)) (BreaksFirst d n line)
 unfolding scale_line
-scale_fault d n line due = by_choice (λ (r : Result Said TableFault). IfErr r (BreaksFirst d n line)) (bytes_eq (word (words line) 0) (codes "unit")) _ _
+scale_fault d n line due = by_choice (λ (r : Result Content TableFault). IfErr r (BreaksFirst d n line)) (bytes_eq (word (words line) 0) (codes "unit")) _ _
     (λ t. unit_fault d n line due (same_text (word (words line) 0) (codes "unit") t))
     (λ f. border_fault d n line (inl due) (λ other. (cc)) (no_scale d line due f))
 
@@ -134,27 +134,27 @@ negated : (b : Bool) → not b ≡ false → b ≡ true
 negated true f = refl
 negated false f = (cc)
 
-name_fault : (d : Said) (n threshold : ℕ) (line digits : List ℕ) → IsClassDue d line digits → length d.names < 64 → SpellsNumber 0 (10 ^ 30) digits → IfErr (named_class d n threshold (name_in line)) (BreaksFirst d n line)
+name_fault : (d : Content) (n threshold : ℕ) (line digits : List ℕ) → IsClassDue d line digits → length d.names < 64 → SpellsNumber 0 (10 ^ 30) digits → IfErr (named_class d n threshold (name_in line)) (BreaksFirst d n line)
 unfolding named_class
 name_fault d n threshold line digits is room spelled =
     let name = name_in line in
-    let P = λ (r : Result Said TableFault). IfErr r (BreaksFirst d n line) in
+    let P = λ (r : Result Content TableFault). IfErr r (BreaksFirst d n line) in
     by_choice P (not (is_name name)) _ _
     (λ t. wrong_name digits is room spelled (λ named. (let holds : is_name name ≡ true = name_test name named in cc)))
     (λ f. by_choice P (is_among d.names name) _ _ (λ t. repeated_name digits is room spelled (name_of_test name (negated (is_name name) f)) t) (λ g. tt))
 
-short_class : (d : Said) (line : List ℕ) → d.due ≡ Body → word (words line) 0 ≡ codes "class" → length (words line) < 3 → ¬ IsDue d line
+short_class : (d : Content) (line : List ℕ) → d.due ≡ Body → word (words line) 0 ≡ codes "class" → length (words line) < 3 → ¬ IsDue d line
 short_class d line due head short is = elim (body_due d line due is) [
   | inl c ↦ (let long = ap length c.1.words_are in omega arith)
   | inr r ↦ told_apart (codes "class") (codes "row") refl (sym head ∙ first_of line (codes "row") r.0 r.1.words_are)
 ]
 
-class_fault : (d : Said) (n : ℕ) (line : List ℕ) → d.due ≡ Body → word (words line) 0 ≡ codes "class" → d.rows ≡ 0 → IfErr (class_line d n line (words line)) (BreaksFirst d n line)
+class_fault : (d : Content) (n : ℕ) (line : List ℕ) → d.due ≡ Body → word (words line) 0 ≡ codes "class" → d.rows ≡ 0 → IfErr (class_line d n line (words line)) (BreaksFirst d n line)
 unfolding class_line
 class_fault d n line due head rows =
     let parts = words line in
     let digits = word parts 1 in
-    let P = λ (r : Result Said TableFault). IfErr r (BreaksFirst d n line) in
+    let P = λ (r : Result Content TableFault). IfErr r (BreaksFirst d n line) in
     by_choice P (nat_lt (length parts) 3) _ _
     (λ t. wrong_words (λ other. (cc)) (short_class d line due head (lt_test (length parts) 3 t)))
     (λ f. (let is : IsClassDue d line digits = record {
@@ -176,12 +176,12 @@ pub some_word : (parts : List (List ℕ)) (a : ℕ) (more : List ℕ) → word p
 some_word [] a more e = absurd (let never : [] ≡ a ∷ more = e in cc)
 some_word (x ∷ parts) a more e = omega arith
 
-row_fault : (d : Said) (n : ℕ) (line : List ℕ) → d.due ≡ Body → word (words line) 0 ≡ codes "row" → d.rows < length d.names → IfErr (row_line d n (words line)) (BreaksFirst d n line)
+row_fault : (d : Content) (n : ℕ) (line : List ℕ) → d.due ≡ Body → word (words line) 0 ≡ codes "row" → d.rows < length d.names → IfErr (row_line d n (words line)) (BreaksFirst d n line)
 unfolding row_line
 row_fault d n line due head room =
     let parts = words line in
     let rest = drop 1 parts in
-    let P = λ (r : Result Said TableFault). IfErr r (BreaksFirst d n line) in
+    let P = λ (r : Result Content TableFault). IfErr r (BreaksFirst d n line) in
     let whole : parts ≡ codes "row" ∷ rest = one_word parts (codes "row") (some_word parts 114 (111 ∷ 119 ∷ []) head) head in
     let long : length parts ≡ length rest + 1 = (let same = ap length whole in omega arith) in
     let is : IsRowDue d line rest = record { due = due; room = room; words_are = whole } in
@@ -194,13 +194,13 @@ row_fault d n line due head room =
 
 -- any line
 
-abbrev pub is_class_due : Said → List (List ℕ) → Bool
+abbrev pub is_class_due : Content → List (List ℕ) → Bool
 is_class_due d parts = bytes_eq (word parts 0) (codes "class") && (d.rows == 0)
 
-abbrev pub is_row_due : Said → List (List ℕ) → Bool
+abbrev pub is_row_due : Content → List (List ℕ) → Bool
 is_row_due d parts = bytes_eq (word parts 0) (codes "row") && nat_lt d.rows (length d.names)
 
-no_body : (d : Said) (line : List ℕ) → d.due ≡ Body → is_class_due d (words line) ≡ false → is_row_due d (words line) ≡ false → ¬ IsDue d line
+no_body : (d : Content) (line : List ℕ) → d.due ≡ Body → is_class_due d (words line) ≡ false → is_row_due d (words line) ≡ false → ¬ IsDue d line
 no_body d line due class row is = elim (body_due d line due is) [
   | inl c ↦ (let head = ap (λ parts. bytes_eq (word parts 0) (codes "class")) c.1.words_are in
       let none : (d.rows == 0) ≡ true = eq_true d.rows 0 c.1.before_rows in
@@ -210,11 +210,11 @@ no_body d line due class row is = elim (body_due d line due is) [
       refuted (is_row_due d (words line)) row (ap (λ b. b && nat_lt d.rows (length d.names)) head ∙ room))
 ]
 
-body_fault : (d : Said) (n : ℕ) (line : List ℕ) → d.due ≡ Body → IfErr (body_line d n line (words line)) (BreaksFirst d n line)
+body_fault : (d : Content) (n : ℕ) (line : List ℕ) → d.due ≡ Body → IfErr (body_line d n line (words line)) (BreaksFirst d n line)
 unfolding body_line
 body_fault d n line due =
     let parts = words line in
-    let P = λ (r : Result Said TableFault). IfErr r (BreaksFirst d n line) in
+    let P = λ (r : Result Content TableFault). IfErr r (BreaksFirst d n line) in
     by_choice P (is_class_due d parts) _ _
     (λ t. (let tests = both (bytes_eq (word parts 0) (codes "class")) (d.rows == 0) t in
     class_fault d n line due (same_text (word parts 0) (codes "class") tests.0) (eq_test d.rows 0 tests.1)))
@@ -223,10 +223,10 @@ body_fault d n line due =
     row_fault d n line due (same_text (word parts 0) (codes "row") tests.0) (lt_test d.rows (length d.names) tests.1)))
     (λ g. wrong_words (λ other. (cc)) (no_body d line due f g)))
 
-no_border : (d : Said) (line : List ℕ) → d.due ≡ Border → has_border (words line) ≡ false → ¬ IsDue d line
+no_border : (d : Content) (line : List ℕ) → d.due ≡ Border → has_border (words line) ≡ false → ¬ IsDue d line
 no_border d line due f is = let b = only_border_due d line due is in refuted (has_border (words line)) f (ap has_border b.1)
 
-due_fault : (due : Due) (d : Said) (n : ℕ) (line : List ℕ) → d.due ≡ due → IfErr (due_line due d n line (words line)) (BreaksFirst d n line)
+due_fault : (due : Due) (d : Content) (n : ℕ) (line : List ℕ) → d.due ≡ due → IfErr (due_line due d n line (words line)) (BreaksFirst d n line)
 unfolding due_line
 due_fault Head d n line due = version_fault d n line due
 due_fault Scale d n line due = scale_fault d n line due
@@ -234,6 +234,6 @@ due_fault Border d n line due = border_fault d n line (inr due) (λ other. (cc))
 due_fault Body d n line due = body_fault d n line due
 
 -- The fault of a line that counts is that of the first rule that it breaks.
-pub line_fault : (d : Said) (n : ℕ) (line : List ℕ) → counts line ≡ true → IfErr (line_says d n line) (BreaksFirst d n line)
+pub line_fault : (d : Content) (n : ℕ) (line : List ℕ) → is_counted line ≡ true → IfErr (line_says d n line) (BreaksFirst d n line)
 unfolding line_says
-line_fault d n line due = by_choice (λ (r : Result Said TableFault). IfErr r (BreaksFirst d n line)) (counts line) _ _ (λ t. due_fault d.due d n line refl) (λ f. absurd (refuted (counts line) f due))
+line_fault d n line due = by_choice (λ (r : Result Content TableFault). IfErr r (BreaksFirst d n line)) (is_counted line) _ _ (λ t. due_fault d.due d n line refl) (λ f. absurd (refuted (is_counted line) f due))

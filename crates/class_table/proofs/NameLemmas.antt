@@ -1,12 +1,11 @@
 -- The rule of names, and the words of a row.
-use Rattle.std.proofs.Common.{◌≡◌, ℕ, zero, suc, All, ◌+◌, ◌<◌, ◌≤◌, ◌&&◌, nat_le, Bool, true, false, List, [], ◌∷◌, ◌++◌, length, drop, Option, Some, None, sym, ap, refl, ◌∙◌, arith}
+use Rattle.std.proofs.Common.{◌≡◌, ℕ, zero, suc, All, ◌≤◌, ◌&&◌, nat_le, Bool, true, false, List, [], ◌∷◌, ◌++◌, length, Option, Some, None, sym, ap, refl, ◌∙◌, arith}
 use Rattle.std.specs.List.{list_all}
 use Rattle.std.specs.Str.{is_utf8, IsUtf8}
 use Rattle.std.proofs.lemmas.Bool.Decides.{nat_tests}
-use Rattle.std.proofs.lemmas.List.{append_assoc, append-nil, drop_more, drop_all}
+use Rattle.std.proofs.lemmas.List.{append_assoc, append-nil}
 use Rattle.std.proofs.lemmas.Str.{IsUtf8-from_is_utf8, is_utf8-from_IsUtf8}
 use Rattle.class_table.specs.Numbers.{number_in}
-use Rattle.text_words.specs.Words.{word}
 use Rattle.class_table.specs.Reading.{distances_in, push_front}
 use Rattle.class_table.specs.Names.{IsName, is_name}
 
@@ -77,21 +76,18 @@ pub onto_start : (o : Option (List ℕ)) → o ≡ onto [] o
 onto_start None = refl
 onto_start (Some more) = refl
 
-at_word : (parts : List (List ℕ)) (at : ℕ) → at < length parts → distances_in (drop at parts) ≡ push_front (number_in 0 10000 (word parts at)) (distances_in (drop (at + 1) parts))
-at_word parts at l = ap distances_in (drop_more parts at [] l)
-
 -- one more distance
-pub row_step : (parts : List (List ℕ)) (row : List ℕ) (at n : ℕ) → at < length parts → Some n ≡ number_in 0 10000 (word parts at)
-    → distances_in (drop 1 parts) ≡ onto row (distances_in (drop at parts)) → distances_in (drop 1 parts) ≡ onto (row ++ n ∷ []) (distances_in (drop (at + 1) parts))
-row_step parts row at n l is before =
-    before ∙ ap (onto row) (at_word parts at l ∙ ap (λ o. push_front o (distances_in (drop (at + 1) parts))) (sym is)) ∙ onto_push row n (distances_in (drop (at + 1) parts))
+pub row_step : (all left more : List (List ℕ)) (row part : List ℕ) (n : ℕ) → left ≡ part ∷ more → Some n ≡ number_in 0 10000 part
+    → distances_in all ≡ onto row (distances_in left) → distances_in all ≡ onto (row ++ n ∷ []) (distances_in more)
+row_step all left more row part n is number before =
+    before ∙ ap (λ ps. onto row (distances_in ps)) is ∙ ap (λ o. onto row (push_front o (distances_in more))) (sym number) ∙ onto_push row n (distances_in more)
 
 -- a word that spells no distance
-pub row_none : (parts : List (List ℕ)) (row : List ℕ) (at : ℕ) → at < length parts → None ≡ number_in 0 10000 (word parts at)
-    → distances_in (drop 1 parts) ≡ onto row (distances_in (drop at parts)) → distances_in (drop 1 parts) ≡ None
-row_none parts row at l is before =
-    before ∙ ap (onto row) (at_word parts at l ∙ ap (λ o. push_front o (distances_in (drop (at + 1) parts))) (sym is))
+pub row_none : (all left more : List (List ℕ)) (row part : List ℕ) → left ≡ part ∷ more → None ≡ number_in 0 10000 part
+    → distances_in all ≡ onto row (distances_in left) → distances_in all ≡ None
+row_none all left more row part is number before =
+    before ∙ ap (λ ps. onto row (distances_in ps)) is ∙ ap (λ o. onto row (push_front o (distances_in more))) (sym number)
 
 -- where all words are read
-pub row_done : (parts : List (List ℕ)) (row : List ℕ) (at : ℕ) → length parts ≤ at → distances_in (drop 1 parts) ≡ onto row (distances_in (drop at parts)) → distances_in (drop 1 parts) ≡ Some row
-row_done parts row at l before = before ∙ ap (λ ps. onto row (distances_in ps)) (drop_all at parts l) ∙ ap (λ r. Some r) (append-nil row)
+pub row_done : (all left : List (List ℕ)) (row : List ℕ) → left ≡ [] → distances_in all ≡ onto row (distances_in left) → distances_in all ≡ Some row
+row_done all left row none before = before ∙ ap (λ ps. onto row (distances_in ps)) none ∙ ap (λ r. Some r) (append-nil row)

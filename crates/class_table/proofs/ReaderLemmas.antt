@@ -5,8 +5,8 @@ use Rattle.std.proofs.lemmas.List.Splits.{length-slice_split}
 use Rattle.std.proofs.lemmas.List.Sums.{count_by-le-length}
 use Rattle.agg_base.specs.Lines.{Row, rows_of_parts, rows_from}
 use Rattle.agg_base.specs.declared.line.Ending.TheVariants.{Missing}
-use Rattle.class_table.specs.Classes.{Classes, IsClasses}
-use Rattle.class_table.specs.Said.{Said, nothing_said}
+use Rattle.class_table.specs.Table.{Table, IsTable}
+use Rattle.class_table.specs.Content.{Content, no_content}
 use Rattle.class_table.specs.Reading.{◌then◌, lines_say, whole, reading}
 use Rattle.class_table.specs.TableTexts.{IsTableText}
 use Rattle.class_table.specs.Faults.{IsFaultOf, IsFirstFault}
@@ -33,19 +33,19 @@ rows_few text =
     omega arith
 
 -- a table that is read keeps what every table keeps
-pub read_content : (text : List ℕ) (d : Said) (last : ℕ) (t : Classes) → lines_say nothing_said (rows_from 1 text) ≡ Ok d → last ≡ length (rows_from 1 text) → whole d last ≡ Ok t → IsClasses t
+pub read_content : (text : List ℕ) (d : Content) (last : ℕ) (t : Table) → lines_say no_content (rows_from 1 text) ≡ Ok d → last ≡ length (rows_from 1 text) → whole d last ≡ Ok t → IsTable t
 unfolding reading
 read_content text d last t all count end =
     let read : reading text ≡ Ok t = ap (λ r. r then (λ e. whole e (length (rows_from 1 text)))) all ∙ ap (λ n. whole d n) (sym count) ∙ end in
     (read_table text t read).content
 
 -- what was read is the table
-pub gives_table : (text : List ℕ) (r : Result Classes TableFault) → Gives (λ t. t) r (reading text) → IfOk r (λ t. IsTableText text t)
+pub gives_table : (text : List ℕ) (r : Result Table TableFault) → Gives (λ t. t) r (reading text) → IfOk r (λ t. IsTableText text t)
 gives_table text (Ok t) is = read_table text t is
 gives_table text (Err f) is = tt
 
 -- what was read is the fault
-pub gives_fault : (text : List ℕ) (r : Result Classes TableFault) → Gives (λ t. t) r (reading text) → IfErr r (λ f. IsFaultOf text f)
+pub gives_fault : (text : List ℕ) (r : Result Table TableFault) → Gives (λ t. t) r (reading text) → IfErr r (λ f. IsFaultOf text f)
 gives_fault text (Ok t) is = tt
 gives_fault text (Err Memory) is = tt
 gives_fault text (Err (Line number why)) is = read_fault text (Line number why) is
@@ -53,9 +53,9 @@ gives_fault text (Err (RepeatedClass line)) is = read_fault text (RepeatedClass 
 gives_fault text (Err (Limit line)) is = read_fault text (Limit line) is
 
 -- a text that spells a table is read as it
-pub gives_spelled : (text : List ℕ) (r : Result Classes TableFault) (t : Classes) → Gives (λ u. u) r (reading text) → IsTableText text t → Gives (λ u. u) r (Ok t)
+pub gives_spelled : (text : List ℕ) (r : Result Table TableFault) (t : Table) → Gives (λ u. u) r (reading text) → IsTableText text t → Gives (λ u. u) r (Ok t)
 gives_spelled text r t is spelled = subst (λ read. Gives (λ u. u) r read) (table_read text t spelled) is
 
 -- a text with a first fault is refused by it
-pub gives_faulty : (text : List ℕ) (r : Result Classes TableFault) (f : TableFault) → Gives (λ u. u) r (reading text) → IsFirstFault text f → Gives {X = Classes} {Y = Classes} (λ u. u) r (Err f)
+pub gives_faulty : (text : List ℕ) (r : Result Table TableFault) (f : TableFault) → Gives (λ u. u) r (reading text) → IsFirstFault text f → Gives {X = Table} {Y = Table} (λ u. u) r (Err f)
 gives_faulty text r f is first = subst (λ read. Gives (λ u. u) r read) (fault_read text f first) is

@@ -8,11 +8,11 @@ use Rattle.std.proofs.lemmas.Nat.{mul-le}
 use Rattle.std.proofs.lemmas.List.{length-append, get_or_append_left, get_or_at, get_or-append-add, get_or-append_right}
 use Rattle.std.proofs.lemmas.Slice.Eq.{bytes_eq-Decides}
 use Rattle.agg_base.specs.Lines.{Row}
-use Rattle.class_table.specs.Classes.{IsClasses}
+use Rattle.class_table.specs.Table.{IsTable}
 use Rattle.class_table.specs.Names.{IsName}
 use Rattle.class_table.specs.Numbers.{IsNumber}
-use Rattle.class_table.specs.Words.{counts}
-use Rattle.class_table.specs.Said.{Said, nothing_said, table_of, is_among}
+use Rattle.class_table.specs.Words.{is_counted}
+use Rattle.class_table.specs.Content.{Content, no_content, table_of, is_among}
 use Rattle.class_table.specs.Reading.{is_whole, ◌then◌, line_says, lines_say}
 use Rattle.class_table.specs.TableTexts.{lines_of}
 use Rattle.class_table.specs.Steps.{AddsUnit, AddsBorder, AddsClass, AddsRow, AddsDue, AddAll}
@@ -28,11 +28,11 @@ then_ok (Ok x) more y e = (x, refl, e)
 then_ok (Err fault) more y e = absurd (let never : Err fault ≡ Ok y = e in cc)
 
 -- Lines that say something follow the rules.
-pub lines_add : (d : Said) (rows : List Row) (e : Said) → lines_say d rows ≡ Ok e → AddAll d (lines_of rows) e
+pub lines_add : (d : Content) (rows : List Row) (e : Content) → lines_say d rows ≡ Ok e → AddAll d (lines_of rows) e
 lines_add d [] e is = let same : Ok d ≡ Ok e = is in cc
 lines_add d (row ∷ rows) e is =
     let step = then_ok (line_says d row.number row.text) (λ m. lines_say m rows) e is in
-    elim (counts row.text) as (λ b. counts row.text ≡ b → AddAll d (cond b (row.text ∷ lines_of rows) (lines_of rows)) e) [
+    elim (is_counted row.text) as (λ b. is_counted row.text ≡ b → AddAll d (cond b (row.text ∷ lines_of rows) (lines_of rows)) e) [
       | true ↦ λ t. (step.0, line_ok d row.number row.text step.0 t step.1, lines_add step.0 rows e step.2)
       | false ↦ λ t. (let passed : line_says d row.number row.text ≡ Ok d = line_passed d row.number row.text t in
           let same : step.0 ≡ d = (let first : line_says d row.number row.text ≡ Ok step.0 = step.1 in cc) in
@@ -40,10 +40,10 @@ lines_add d (row ∷ rows) e is =
     ] refl
 
 -- Lines that follow the rules say so.
-pub lines_back : (d : Said) (rows : List Row) (e : Said) → AddAll d (lines_of rows) e → lines_say d rows ≡ Ok e
+pub lines_back : (d : Content) (rows : List Row) (e : Content) → AddAll d (lines_of rows) e → lines_say d rows ≡ Ok e
 lines_back d [] e is = ap (λ m. Ok m) is
 lines_back d (row ∷ rows) e is =
-    elim (counts row.text) as (λ b. counts row.text ≡ b → AddAll d (cond b (row.text ∷ lines_of rows) (lines_of rows)) e → lines_say d (row ∷ rows) ≡ Ok e) [
+    elim (is_counted row.text) as (λ b. is_counted row.text ≡ b → AddAll d (cond b (row.text ∷ lines_of rows) (lines_of rows)) e → lines_say d (row ∷ rows) ≡ Ok e) [
       | true ↦ λ t adds. ap (λ r. r then (λ m. lines_say m rows)) (line_back d row.number row.text adds.0 t adds.1) ∙ lines_back adds.0 rows e adds.2
       | false ↦ λ t adds. ap (λ r. r then (λ m. lines_say m rows)) (line_passed d row.number row.text t) ∙ lines_back d rows e adds
     ] refl is
@@ -77,7 +77,7 @@ apart_among (seen ∷ names) name apart =
 -- what is kept
 
 -- what every list of right lines keeps
-pub record Kept (d : Said) : Type 0 where
+pub record Kept (d : Content) : Type 0 where
   wide_least : 1 ≤ d.wide
   wide_most : d.wide ≤ 100
   high_least : 1 ≤ d.high
@@ -93,7 +93,7 @@ pub record Kept (d : Said) : Type 0 where
   no_distance : (k : ℕ) → k < d.rows → get_or d.distance (k * length d.names + k) 0 ≡ 0
   apart : (j k : ℕ) → j < k → k < length d.names → get_or d.names j [] ≢ get_or d.names k []
 
-pub kept_start : Kept nothing_said
+pub kept_start : Kept no_content
 kept_start = record {
   wide_least = omega arith;
   wide_most = omega arith;
@@ -129,7 +129,7 @@ place_below k r n l m =
 at_first : (n : ℕ) → 0 * n ≡ 0
 at_first n = grind arith
 
-kept_class : (d : Said) (line : List ℕ) (e : Said) → Kept d → AddsClass d line e → Kept e
+kept_class : (d : Content) (line : List ℕ) (e : Content) → Kept d → AddsClass d line e → Kept e
 kept_class d line e kept is =
     let n : ℕ = length d.names in
     let l = is.line_is in
@@ -180,7 +180,7 @@ row_near (part ∷ parts) (x ∷ row) (suc i) all l = row_near parts row i all.1
 pub row_home : (ds row : List ℕ) (r n : ℕ) → length ds ≡ r * n → get_or (ds ++ row) (r * n + r) 0 ≡ get_or row r 0
 row_home ds row r n e = ap (λ (m : ℕ). get_or (ds ++ row) (m + r) 0) (sym e) ∙ get_or-append-add ds row r 0
 
-kept_row : (d : Said) (line : List ℕ) (e : Said) → Kept d → AddsRow d line e → Kept e
+kept_row : (d : Content) (line : List ℕ) (e : Content) → Kept d → AddsRow d line e → Kept e
 kept_row d line e kept is =
     let n : ℕ = length d.names in
     let room = is.room in
@@ -211,7 +211,7 @@ kept_row d line e kept is =
       apart = kept.apart;
     })
 
-kept_unit : (d : Said) (line : List ℕ) (e : Said) → Kept d → AddsUnit d line e → Kept e
+kept_unit : (d : Content) (line : List ℕ) (e : Content) → Kept d → AddsUnit d line e → Kept e
 kept_unit d line e kept is = subst Kept (sym is.then_is) (record {
   wide_least = is.line_is.x_is.not_less;
   wide_most = is.line_is.x_is.not_more;
@@ -229,7 +229,7 @@ kept_unit d line e kept is = subst Kept (sym is.then_is) (record {
   apart = kept.apart;
 })
 
-kept_border : (d : Said) (line : List ℕ) (e : Said) → Kept d → AddsBorder d line e → Kept e
+kept_border : (d : Content) (line : List ℕ) (e : Content) → Kept d → AddsBorder d line e → Kept e
 kept_border d line e kept is = subst Kept (sym is.then_is) (record {
   wide_least = kept.wide_least;
   wide_most = kept.wide_most;
@@ -247,7 +247,7 @@ kept_border d line e kept is = subst Kept (sym is.then_is) (record {
   apart = kept.apart;
 })
 
-kept_version : (d e : Said) → Kept d → e ≡ record d { due = Scale } → Kept e
+kept_version : (d e : Content) → Kept d → e ≡ record d { due = Scale } → Kept e
 kept_version d e kept is = subst Kept (sym is) (record {
   wide_least = kept.wide_least;
   wide_most = kept.wide_most;
@@ -265,19 +265,19 @@ kept_version d e kept is = subst Kept (sym is) (record {
   apart = kept.apart;
 })
 
-kept_due : (due : Due) (d : Said) (line : List ℕ) (e : Said) → Kept d → AddsDue due d line e → Kept e
+kept_due : (due : Due) (d : Content) (line : List ℕ) (e : Content) → Kept d → AddsDue due d line e → Kept e
 kept_due Head d line e kept is = kept_version d e kept is.1
 kept_due Scale d line e kept is = elim is as (λ _. Kept e) [ inl unit ↦ kept_unit d line e kept unit | inr border ↦ kept_border d line e kept border ]
 kept_due Border d line e kept is = kept_border d line e kept is
 kept_due Body d line e kept is = elim is as (λ _. Kept e) [ inl class ↦ kept_class d line e kept class | inr row ↦ kept_row d line e kept row ]
 
 -- Lines keep it.
-pub kept_all : (d : Said) (lines : List (List ℕ)) (e : Said) → Kept d → AddAll d lines e → Kept e
+pub kept_all : (d : Content) (lines : List (List ℕ)) (e : Content) → Kept d → AddAll d lines e → Kept e
 kept_all d [] e kept is = subst Kept is kept
 kept_all d (line ∷ lines) e kept is = kept_all is.0 lines e (kept_due d.due d line is.0 kept is.1) is.2
 
 -- a table of what was said
-pub whole_table : (e : Said) → Kept e → is_whole e ≡ true → IsClasses (table_of e)
+pub whole_table : (e : Content) → Kept e → is_whole e ≡ true → IsTable (table_of e)
 whole_table e kept is =
     let tests = both (nat_le 1 (length e.names)) (e.rows == length e.names) is in
     let some : 1 ≤ length e.names = (let t : nat_le 1 (length e.names) ≡ true = tests.0 in grind (arith, nat_tests)) in

@@ -7,8 +7,8 @@ use Rattle.std.proofs.lemmas.Slice.Eq.{bytes_eq-Decides}
 use Rattle.class_table.specs.Names.{IsName, is_name}
 use Rattle.class_table.specs.Numbers.{IsNumber, number_in}
 use Rattle.text_words.specs.Words.{words, word}
-use Rattle.class_table.specs.Words.{counts, name_in}
-use Rattle.class_table.specs.Said.{Said, is_among}
+use Rattle.class_table.specs.Words.{is_counted, name_in}
+use Rattle.class_table.specs.Content.{Content, is_among}
 use Rattle.class_table.specs.Reading.{is_version, if_number, breaks, version_line, unit_line, border_line, scale_line, named_class, class_line, distances_in, push_front, row_line, body_line, due_line, line_says}
 use Rattle.class_table.specs.TableTexts.{IsVersionLine}
 use Rattle.class_table.specs.Steps.{AddsUnit, AddsBorder, AddsClass, AddsRow, AddsDue, Adds}
@@ -94,19 +94,19 @@ version_of_test line is =
     let b = same_text (word parts 1) (codes "1") tests.1 in
     two_words parts (eq_test (length parts) 2 first.0) ∙ ap (λ w. w ∷ word parts 1 ∷ []) a ∙ ap (λ w. codes "classes" ∷ w ∷ []) b
 
-version_ok : (d : Said) (n : ℕ) (line : List ℕ) (e : Said) → version_line d n (words line) ≡ Ok e → IsVersionLine line × (e ≡ record d { due = Scale })
+version_ok : (d : Content) (n : ℕ) (line : List ℕ) (e : Content) → version_line d n (words line) ≡ Ok e → IsVersionLine line × (e ≡ record d { due = Scale })
 unfolding version_line
 version_ok d n line e is =
     let choice = taken (is_version (words line)) (Ok (record d { due = Scale })) _ e is in
     (version_of_test line choice.0, let same = choice.1 in cc)
 
-version_back : (d : Said) (n : ℕ) (line : List ℕ) (e : Said) → IsVersionLine line → e ≡ record d { due = Scale } → version_line d n (words line) ≡ Ok e
+version_back : (d : Content) (n : ℕ) (line : List ℕ) (e : Content) → IsVersionLine line → e ≡ record d { due = Scale } → version_line d n (words line) ≡ Ok e
 unfolding version_line
 version_back d n line e is then_is = rw is (ap (λ x. Ok x) (sym then_is))
 
 -- the unit
 
-unit_ok : (d : Said) (n : ℕ) (line : List ℕ) (e : Said) → word (words line) 0 ≡ codes "unit" → unit_line d n (words line) ≡ Ok e → AddsUnit d line e
+unit_ok : (d : Content) (n : ℕ) (line : List ℕ) (e : Content) → word (words line) 0 ≡ codes "unit" → unit_line d n (words line) ≡ Ok e → AddsUnit d line e
 unfolding unit_line
 unit_ok d n line e head is =
     let parts = words line in
@@ -126,7 +126,7 @@ unit_ok d n line e head is =
       then_is = let same = high.2 in cc;
     }
 
-unit_back : (d : Said) (n : ℕ) (line : List ℕ) (e : Said) → AddsUnit d line e → unit_line d n (words line) ≡ Ok e
+unit_back : (d : Content) (n : ℕ) (line : List ℕ) (e : Content) → AddsUnit d line e → unit_line d n (words line) ≡ Ok e
 unfolding unit_line
 unit_back d n line e is =
     let l = is.line_is in
@@ -134,7 +134,7 @@ unit_back d n line e is =
 
 -- the border
 
-border_ok : (d : Said) (n : ℕ) (line : List ℕ) (e : Said) → border_line d n (words line) ≡ Ok e → AddsBorder d line e
+border_ok : (d : Content) (n : ℕ) (line : List ℕ) (e : Content) → border_line d n (words line) ≡ Ok e → AddsBorder d line e
 unfolding border_line
 border_ok d n line e is =
     let parts = words line in
@@ -151,7 +151,7 @@ border_ok d n line e is =
       then_is = let same = number.2 in cc;
     }
 
-border_back : (d : Said) (n : ℕ) (line : List ℕ) (e : Said) → AddsBorder d line e → border_line d n (words line) ≡ Ok e
+border_back : (d : Content) (n : ℕ) (line : List ℕ) (e : Content) → AddsBorder d line e → border_line d n (words line) ≡ Ok e
 unfolding border_line
 border_back d n line e is =
     let l = is.line_is in
@@ -159,7 +159,7 @@ border_back d n line e is =
 
 -- a class
 
-named_ok : (d : Said) (n least : ℕ) (name : List ℕ) (e : Said) → named_class d n least name ≡ Ok e
+named_ok : (d : Content) (n least : ℕ) (name : List ℕ) (e : Content) → named_class d n least name ≡ Ok e
     → (is_name name ≡ true) × (is_among d.names name ≡ false) × (e ≡ record d { names = d.names ++ name ∷ []; threshold = d.threshold ++ pos least ∷ [] })
 unfolding named_class
 named_ok d n least name e is =
@@ -167,7 +167,7 @@ named_ok d n least name e is =
     let next = not_taken (is_among d.names name) _ _ e first.1 in
     (elim (is_name name) as (λ b. not b ≡ false → b ≡ true) [ true ↦ λ f. refl | false ↦ λ f. (cc) ] first.0, next.0, let same = next.1 in cc)
 
-class_ok : (d : Said) (n : ℕ) (line : List ℕ) (e : Said) → word (words line) 0 ≡ codes "class" → d.rows ≡ 0 → class_line d n line (words line) ≡ Ok e → AddsClass d line e
+class_ok : (d : Content) (n : ℕ) (line : List ℕ) (e : Content) → word (words line) 0 ≡ codes "class" → d.rows ≡ 0 → class_line d n line (words line) ≡ Ok e → AddsClass d line e
 unfolding class_line
 class_ok d n line e head rows is =
     let parts = words line in
@@ -207,12 +207,12 @@ lt_false a b l = grind (arith, nat_tests)
 pub eq_true : (a b : ℕ) → a ≡ b → (a == b) ≡ true
 eq_true a b e = (Decides-eqb a b).1 e
 
-named_back : (d : Said) (n least : ℕ) (name : List ℕ) (e : Said) → is_name name ≡ true → is_among d.names name ≡ false
+named_back : (d : Content) (n least : ℕ) (name : List ℕ) (e : Content) → is_name name ≡ true → is_among d.names name ≡ false
     → e ≡ record d { names = d.names ++ name ∷ []; threshold = d.threshold ++ pos least ∷ [] } → named_class d n least name ≡ Ok e
 unfolding named_class
 named_back d n least name e named new is = rw (named, new) (ap (λ x. Ok x) (sym is))
 
-class_back : (d : Said) (n : ℕ) (line : List ℕ) (e : Said) → AddsClass d line e → class_line d n line (words line) ≡ Ok e
+class_back : (d : Content) (n : ℕ) (line : List ℕ) (e : Content) → AddsClass d line e → class_line d n line (words line) ≡ Ok e
 unfolding class_line
 class_back d n line e is =
     let l = is.line_is in
@@ -247,7 +247,7 @@ zip_length R [] (y ∷ ys) all = absurd all
 zip_length R (x ∷ xs) [] all = absurd all
 zip_length R (x ∷ xs) (y ∷ ys) all = ap suc (zip_length R xs ys all.1)
 
-row_ok : (d : Said) (n : ℕ) (line : List ℕ) (e : Said) → word (words line) 0 ≡ codes "row" → d.rows < length d.names → row_line d n (words line) ≡ Ok e → AddsRow d line e
+row_ok : (d : Content) (n : ℕ) (line : List ℕ) (e : Content) → word (words line) 0 ≡ codes "row" → d.rows < length d.names → row_line d n (words line) ≡ Ok e → AddsRow d line e
 unfolding row_line
 row_ok d n line e head room is =
     let parts = words line in
@@ -266,7 +266,7 @@ row_ok d n line e head room is =
       then_is = let same = home.1 in cc;
     }
 
-row_back : (d : Said) (n : ℕ) (line : List ℕ) (e : Said) → AddsRow d line e → row_line d n (words line) ≡ Ok e
+row_back : (d : Content) (n : ℕ) (line : List ℕ) (e : Content) → AddsRow d line e → row_line d n (words line) ≡ Ok e
 unfolding row_line
 row_back d n line e is =
     let l = is.line_is in
@@ -277,7 +277,7 @@ row_back d n line e is =
 
 -- any line
 
-scale_ok : (d : Said) (n : ℕ) (line : List ℕ) (e : Said) → scale_line d n (words line) ≡ Ok e → AddsUnit d line e ⊎ AddsBorder d line e
+scale_ok : (d : Content) (n : ℕ) (line : List ℕ) (e : Content) → scale_line d n (words line) ≡ Ok e → AddsUnit d line e ⊎ AddsBorder d line e
 unfolding scale_line
 scale_ok d n line e is =
     elim (bytes_eq (word (words line) 0) (codes "unit")) as (λ b. bytes_eq (word (words line) 0) (codes "unit") ≡ b → cond b (unit_line d n (words line)) (border_line d n (words line)) ≡ Ok e → AddsUnit d line e ⊎ AddsBorder d line e) [
@@ -285,14 +285,14 @@ scale_ok d n line e is =
       | false ↦ λ t is. inr (border_ok d n line e is)
     ] refl is
 
-scale_back : (d : Said) (n : ℕ) (line : List ℕ) (e : Said) → AddsUnit d line e ⊎ AddsBorder d line e → scale_line d n (words line) ≡ Ok e
+scale_back : (d : Content) (n : ℕ) (line : List ℕ) (e : Content) → AddsUnit d line e ⊎ AddsBorder d line e → scale_line d n (words line) ≡ Ok e
 unfolding scale_line
 scale_back d n line e is = elim is as (λ _. cond (bytes_eq (word (words line) 0) (codes "unit")) (unit_line d n (words line)) (border_line d n (words line)) ≡ Ok e) [
   | inl unit ↦ ap (λ parts. cond (bytes_eq (word parts 0) (codes "unit")) (unit_line d n (words line)) (border_line d n (words line))) unit.line_is.words_are ∙ unit_back d n line e unit
   | inr border ↦ ap (λ parts. cond (bytes_eq (word parts 0) (codes "unit")) (unit_line d n (words line)) (border_line d n (words line))) border.line_is.words_are ∙ border_back d n line e border
 ]
 
-body_ok : (d : Said) (n : ℕ) (line : List ℕ) (e : Said) → body_line d n line (words line) ≡ Ok e → AddsClass d line e ⊎ AddsRow d line e
+body_ok : (d : Content) (n : ℕ) (line : List ℕ) (e : Content) → body_line d n line (words line) ≡ Ok e → AddsClass d line e ⊎ AddsRow d line e
 unfolding body_line
 body_ok d n line e is =
     let parts = words line in
@@ -305,7 +305,7 @@ body_ok d n line e is =
           inr (row_ok d n line e (same_text (word parts 0) (codes "row") tests.0) (lt_test d.rows (length d.names) tests.1) choice.1))
     ] refl is
 
-body_back : (d : Said) (n : ℕ) (line : List ℕ) (e : Said) → AddsClass d line e ⊎ AddsRow d line e → body_line d n line (words line) ≡ Ok e
+body_back : (d : Content) (n : ℕ) (line : List ℕ) (e : Content) → AddsClass d line e ⊎ AddsRow d line e → body_line d n line (words line) ≡ Ok e
 unfolding body_line
 body_back d n line e is =
     let choice = λ (parts : List (List ℕ)) (first : Bool) (second : Bool). cond (bytes_eq (word parts 0) (codes "class") && first) (class_line d n line (words line)) (cond (bytes_eq (word parts 0) (codes "row") && second) (row_line d n (words line)) (breaks n Word)) in
@@ -314,14 +314,14 @@ body_back d n line e is =
       | inr row ↦ ap (λ parts. choice parts (d.rows == 0) (nat_lt d.rows (length d.names))) row.line_is.words_are ∙ ap (λ second. choice (codes "row" ∷ row.line_is.parts) (d.rows == 0) second) (lt_true d.rows (length d.names) row.room) ∙ row_back d n line e row
     ]
 
-due_ok : (due : Due) (d : Said) (n : ℕ) (line : List ℕ) (e : Said) → due_line due d n line (words line) ≡ Ok e → AddsDue due d line e
+due_ok : (due : Due) (d : Content) (n : ℕ) (line : List ℕ) (e : Content) → due_line due d n line (words line) ≡ Ok e → AddsDue due d line e
 unfolding due_line
 due_ok Head d n line e is = version_ok d n line e is
 due_ok Scale d n line e is = scale_ok d n line e is
 due_ok Border d n line e is = border_ok d n line e is
 due_ok Body d n line e is = body_ok d n line e is
 
-due_back : (due : Due) (d : Said) (n : ℕ) (line : List ℕ) (e : Said) → AddsDue due d line e → due_line due d n line (words line) ≡ Ok e
+due_back : (due : Due) (d : Content) (n : ℕ) (line : List ℕ) (e : Content) → AddsDue due d line e → due_line due d n line (words line) ≡ Ok e
 unfolding due_line
 due_back Head d n line e is = version_back d n line e is.0 is.1
 due_back Scale d n line e is = scale_back d n line e is
@@ -329,15 +329,15 @@ due_back Border d n line e is = border_back d n line e is
 due_back Body d n line e is = body_back d n line e is
 
 -- a line that counts
-pub line_ok : (d : Said) (n : ℕ) (line : List ℕ) (e : Said) → counts line ≡ true → line_says d n line ≡ Ok e → Adds d line e
+pub line_ok : (d : Content) (n : ℕ) (line : List ℕ) (e : Content) → is_counted line ≡ true → line_says d n line ≡ Ok e → Adds d line e
 unfolding line_says
 line_ok d n line e due is = due_ok d.due d n line e (sym (ap (λ b. cond b (due_line d.due d n line (words line)) (Ok d)) due) ∙ is)
 
-pub line_back : (d : Said) (n : ℕ) (line : List ℕ) (e : Said) → counts line ≡ true → Adds d line e → line_says d n line ≡ Ok e
+pub line_back : (d : Content) (n : ℕ) (line : List ℕ) (e : Content) → is_counted line ≡ true → Adds d line e → line_says d n line ≡ Ok e
 unfolding line_says
 line_back d n line e due is = ap (λ b. cond b (due_line d.due d n line (words line)) (Ok d)) due ∙ due_back d.due d n line e is
 
 -- a line that is passed over
-pub line_passed : (d : Said) (n : ℕ) (line : List ℕ) → counts line ≡ false → line_says d n line ≡ Ok d
+pub line_passed : (d : Content) (n : ℕ) (line : List ℕ) → is_counted line ≡ false → line_says d n line ≡ Ok d
 unfolding line_says
 line_passed d n line due = ap (λ b. cond b (due_line d.due d n line (words line)) (Ok d)) due

@@ -1,6 +1,6 @@
 -- What calls answer, beside what a text says.
 use Rattle.std.specs.Prelude.{◌≡◌, Result, Ok, Err}
-use Rattle.class_table.specs.Said.{Said}
+use Rattle.class_table.specs.Content.{Content}
 use Rattle.class_table.specs.declared.draft.Draft.{Draft}
 use Rattle.class_table.specs.declared.fault.TableFault.{TableFault}
 use Rattle.class_table.specs.declared.fault.TableFault.TheVariants.{Line, RepeatedClass, Limit, Memory}
@@ -18,8 +18,8 @@ Gives view (Ok x) read = read ≡ Ok (view x)
 Gives view (Err fault) read = Fails fault read
 
 -- what a draft holds
-abbrev pub said : Draft → Said
-said draft = record {
+abbrev pub content_of : Draft → Content
+content_of draft = record {
   due = draft.due;
   rows = draft.rows;
   wide = draft.wide;

@@ -1,11 +1,11 @@
 pub mod Breaks
-pub mod Classes
+pub mod Table
 pub mod Faults
 pub mod Gives
 pub mod Names
 pub mod Numbers
 pub mod Reading
-pub mod Said
+pub mod Content
 pub mod Steps
 pub mod TableTexts
 pub mod Words

@@ -2,11 +2,11 @@
 use Rattle.std.specs.Prelude.{◌≡◌, ℕ, ◌^◌, List, [], ◌∷◌, ◌++◌, length, All, codes, ℤ, pos, if◌then◌else◌}
 use Rattle.std.specs.List.{AllZip, concat}
 use Rattle.agg_base.specs.Lines.{Row, rows_from}
-use Rattle.class_table.specs.Classes.{Classes, IsClasses}
+use Rattle.class_table.specs.Table.{Table, IsTable}
 use Rattle.class_table.specs.Names.{IsName}
 use Rattle.class_table.specs.Numbers.{IsNumber}
 use Rattle.text_words.specs.Words.{words}
-use Rattle.class_table.specs.Words.{counts, name_in}
+use Rattle.class_table.specs.Words.{is_counted, name_in}
 
 -- `classes 1`
 abbrev pub IsVersionLine : List ℕ → Type 0
@@ -66,11 +66,11 @@ pub record AreRowLines (count : ℕ) (lines : List (List ℕ)) (distances : List
 -- the lines of a text that count, without their endings
 abbrev pub lines_of : List Row → List (List ℕ)
 lines_of [] = []
-lines_of (line ∷ lines) = if counts line.text then line.text ∷ lines_of lines else lines_of lines
+lines_of (line ∷ lines) = if is_counted line.text then line.text ∷ lines_of lines else lines_of lines
 
 -- the lines spell the table: the version, the unit where it is written, the border, a line for each class, and a row for each class
-pub record AreTableLines (lines : List (List ℕ)) (t : Classes) : Type 0 where
-  pub content : IsClasses t
+pub record AreTableLines (lines : List (List ℕ)) (t : Table) : Type 0 where
+  pub content : IsTable t
   pub version : List ℕ
   pub unit : List (List ℕ)
   pub border : List ℕ
@@ -85,5 +85,5 @@ pub record AreTableLines (lines : List (List ℕ)) (t : Classes) : Type 0 where
   pub rows_are : AreRowLines (length t.names) rows t.distance
 
 -- the text spells the table: those of its lines that count do
-abbrev pub IsTableText : List ℕ → Classes → Type 0
+abbrev pub IsTableText : List ℕ → Table → Type 0
 IsTableText text t = AreTableLines (lines_of (rows_from 1 text)) t

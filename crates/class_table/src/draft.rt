@@ -1,9 +1,9 @@
 // What the lines of a class table have said so far.
 ghost use Rattle.std.specs.Prelude.{◌≡◌, ◌<◌, ◌≤◌, ◌+◌, ◌^◌, if◌then◌else◌, true, length};
-ghost use Rattle.class_table.specs.Said.{nothing_said, table_of};
+ghost use Rattle.class_table.specs.Content.{no_content, table_of};
 ghost use Rattle.class_table.specs.Reading.{version_line, unit_line, border_line, scale_line, named_class, class_line, row_line, body_line, due_line, line_says, is_whole, whole};
-ghost use Rattle.class_table.specs.Classes.{Classes, IsClasses};
-ghost use Rattle.class_table.specs.Gives.{Gives, said};
+ghost use Rattle.class_table.specs.Table.{Table, IsTable};
+ghost use Rattle.class_table.specs.Gives.{Gives, content_of};
 ghost use Rattle.class_table.specs.declared.fault.TableFault.TheVariants.{Line};
 ghost use Rattle.class_table.specs.declared.fault.Why.TheVariants.{End};
 
@@ -14,11 +14,9 @@ use crate::name::name_of;
 use crate::number::read_number;
 use crate::{Table, TableFault, Why};
 use agg_base::Text;
+use agg_base::limits::CLASSES;
 use std::alloc::Global;
 use text_words::Parts;
-
-// The most classes.
-const MOST_CLASSES: usize = 64;
 
 // The greatest factor of an axis.
 const GREATEST_FACTOR: u128 = 100;
@@ -55,7 +53,7 @@ pub(crate) struct Draft {
 impl Draft {
     // Nothing is said.
     pub(crate) fn start(alloc: Global) -> Draft
-        ensures { said result ≡ nothing_said }
+        ensures { content_of result ≡ no_content }
     {
         Draft {
             due: Due::Head,
@@ -72,10 +70,10 @@ impl Draft {
     // Takes one more line.
     #[tactic(auto, unfolding(crate::specs::Reading::line_says))]
     pub(crate) fn take(&mut self, alloc: Global, number: u32, line: &[u8]) -> Result<(), TableFault>
-        ensures { Gives (λ _. said self.new) result (line_says (said self.old) number line.now) }
+        ensures { Gives (λ _. content_of self.new) result (line_says (content_of self.old) number line.now) }
     {
-        let parts = Parts::of(alloc, line)?;
-        if parts.count() == 0 || is_comment(line) {
+        let parts = Parts::of(line);
+        if parts.is_empty() || is_comment(line) {
             return Ok(());
         }
         self.take_due(alloc, number, line, &parts)
@@ -91,7 +89,7 @@ impl Draft {
         parts: &Parts<'_>,
     ) -> Result<(), TableFault>
         requires { 0 < length parts.now }
-        ensures { Gives (λ _. said self.new) result (due_line self.old.due (said self.old) number line.now parts.now) }
+        ensures { Gives (λ _. content_of self.new) result (due_line self.old.due (content_of self.old) number line.now parts.now) }
     {
         match self.due {
             Due::Head => self.take_version(number, parts),
@@ -104,7 +102,7 @@ impl Draft {
     // Takes the version.
     #[tactic(auto, unfolding(crate::specs::Reading::version_line))]
     fn take_version(&mut self, number: u32, parts: &Parts<'_>) -> Result<(), TableFault>
-        ensures { Gives (λ _. said self.new) result (version_line (said self.old) number parts.now) }
+        ensures { Gives (λ _. content_of self.new) result (version_line (content_of self.old) number parts.now) }
     {
         if !has_version(parts) {
             return Err(TableFault::at(number, Why::Version));
@@ -117,7 +115,7 @@ impl Draft {
     #[tactic(auto, unfolding(crate::specs::Reading::scale_line))]
     fn take_scale(&mut self, number: u32, parts: &Parts<'_>) -> Result<(), TableFault>
         requires { 0 < length parts.now }
-        ensures { Gives (λ _. said self.new) result (scale_line (said self.old) number parts.now) }
+        ensures { Gives (λ _. content_of self.new) result (scale_line (content_of self.old) number parts.now) }
     {
         if parts.has(0, b"unit") {
             self.take_unit(number, parts)
@@ -129,9 +127,9 @@ impl Draft {
     // Takes the unit.
     #[tactic(auto, unfolding(crate::specs::Reading::unit_line))]
     fn take_unit(&mut self, number: u32, parts: &Parts<'_>) -> Result<(), TableFault>
-        ensures { Gives (λ _. said self.new) result (unit_line (said self.old) number parts.now) }
+        ensures { Gives (λ _. content_of self.new) result (unit_line (content_of self.old) number parts.now) }
     {
-        if parts.count() != 3 {
+        if parts.len() != 3 {
             return Err(TableFault::at(number, Why::Word));
         }
         let Some(wide) = read_number(parts.at(1), 1, GREATEST_FACTOR) else {
@@ -149,7 +147,7 @@ impl Draft {
     // Takes the border.
     #[tactic(auto, unfolding(crate::specs::Reading::border_line))]
     fn take_border(&mut self, number: u32, parts: &Parts<'_>) -> Result<(), TableFault>
-        ensures { Gives (λ _. said self.new) result (border_line (said self.old) number parts.now) }
+        ensures { Gives (λ _. content_of self.new) result (border_line (content_of self.old) number parts.now) }
     {
         if !has_border(parts) {
             return Err(TableFault::at(number, Why::Word));
@@ -172,7 +170,7 @@ impl Draft {
         parts: &Parts<'_>,
     ) -> Result<(), TableFault>
         requires { 0 < length parts.now }
-        ensures { Gives (λ _. said self.new) result (body_line (said self.old) number line.now parts.now) }
+        ensures { Gives (λ _. content_of self.new) result (body_line (content_of self.old) number line.now parts.now) }
     {
         if parts.has(0, b"class") && self.rows == 0 {
             self.take_class(alloc, number, line, parts)
@@ -192,12 +190,12 @@ impl Draft {
         line: &[u8],
         parts: &Parts<'_>,
     ) -> Result<(), TableFault>
-        ensures { Gives (λ _. said self.new) result (class_line (said self.old) number line.now parts.now) }
+        ensures { Gives (λ _. content_of self.new) result (class_line (content_of self.old) number line.now parts.now) }
     {
-        if parts.count() < 3 {
+        if parts.len() < 3 {
             return Err(TableFault::at(number, Why::Word));
         }
-        if self.names.len() >= MOST_CLASSES {
+        if self.names.len() >= CLASSES {
             return Err(TableFault::Limit { line: number });
         }
         let Some(threshold) = read_number(parts.at(1), 0, GREATEST_THRESHOLD) else {
@@ -216,7 +214,7 @@ impl Draft {
         name: &[u8],
     ) -> Result<(), TableFault>
         requires { threshold ≤ 10 ^ 30 }
-        ensures { Gives (λ _. said self.new) result (named_class (said self.old) number threshold name.now) }
+        ensures { Gives (λ _. content_of self.new) result (named_class (content_of self.old) number threshold name.now) }
     {
         let Some(name) = read_name(name) else {
             return Err(TableFault::at(number, Why::Name));
@@ -234,9 +232,9 @@ impl Draft {
     fn take_row(&mut self, alloc: Global, number: u32, parts: &Parts<'_>) -> Result<(), TableFault>
         requires some { 0 < length parts.now }
         requires due { self.old.rows < length self.old.names.items }
-        ensures { Gives (λ _. said self.new) result (row_line (said self.old) number parts.now) }
+        ensures { Gives (λ _. content_of self.new) result (row_line (content_of self.old) number parts.now) }
     {
-        if parts.count() - 1 != self.names.len() {
+        if parts.len() - 1 != self.names.len() {
             return Err(TableFault::at(number, Why::Count));
         }
         let Some(row) = read_distances(alloc, parts)? else {
@@ -254,8 +252,8 @@ impl Draft {
     #[tactic(auto, unfolding(crate::specs::Reading::whole))]
     pub(crate) fn finish(self, last: u32) -> Result<Table, TableFault>
         requires room { last + 1 < 2 ^ 32 }
-        requires kept { (t : Classes) → whole (said self) last ≡ Ok t → IsClasses t }
-        ensures { Gives (λ t. t) result (whole (said self) last) }
+        requires kept { (t : Table) → whole (content_of self) last ≡ Ok t → IsTable t }
+        ensures { Gives (λ t. t) result (whole (content_of self) last) }
     {
         let number = last + 1;
         match self.due {
@@ -267,8 +265,8 @@ impl Draft {
 
     // The table, where there is a row for each class.
     fn finish_body(self, number: u32) -> Result<Table, TableFault>
-        requires { is_whole (said self) ≡ true → IsClasses (table_of (said self)) }
-        ensures { Gives (λ t. t) result (if is_whole (said self) then Ok (table_of (said self)) else Err (Line number End)) }
+        requires { is_whole (content_of self) ≡ true → IsTable (table_of (content_of self)) }
+        ensures { Gives (λ t. t) result (if is_whole (content_of self) then Ok (table_of (content_of self)) else Err (Line number End)) }
     {
         if self.names.is_empty() || self.rows != self.names.len() {
             return Err(TableFault::at(number, Why::End));

@@ -48,7 +48,7 @@ pub enum TableFault {
         /// The line's number.
         line: u32,
     },
-    /// Memory is wanting. No other cause has this answer.
+    /// Out of memory. No other cause has this answer.
     #[error("out of memory")]
     Memory,
 }

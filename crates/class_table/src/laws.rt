@@ -1,5 +1,5 @@
 // What holds of all texts.
-ghost use Rattle.class_table.specs.Faults.{OneTable, OneFault, TableWithoutFault, TableOrFault, RightOrBroken, NeverBoth, OneRule};
+ghost use Rattle.class_table.specs.Faults.{OneTable, OneFault, TableWithoutFault, TableOrFault, RightOrBroken, NeverBoth, OneSaid, OneRule};
 
 /// A text spells at most one class table.
 pub fn one_table()
@@ -21,9 +21,10 @@ pub fn table_or_fault()
     ensures { TableOrFault }
 {}
 
-/// A line that counts is right behind the lines before it, or breaks one rule first, and never both.
+/// A line that counts is right behind the lines before it and says one thing, or breaks one rule first, and never both.
 pub fn right_lines()
     ensures some { RightOrBroken }
     ensures never_both { NeverBoth }
+    ensures one_said { OneSaid }
     ensures one_rule { OneRule }
 {}

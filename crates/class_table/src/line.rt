@@ -3,7 +3,7 @@ ghost use Rattle.std.specs.Prelude.{◌≡◌, ◌==◌, ◌&&◌, ◌<◌, ◌�
 ghost use Rattle.std.specs.List.{list_all};
 ghost use Rattle.std.specs.Str.{bytes_eq};
 ghost use Rattle.text_words.specs.Words.{word};
-ghost use Rattle.class_table.specs.Said.{is_among};
+ghost use Rattle.class_table.specs.Content.{is_among};
 ghost use Rattle.class_table.specs.Reading.{is_version, distances_in};
 ghost use Rattle.class_table.specs.Names.{is_name};
 
@@ -30,7 +30,7 @@ pub(crate) fn is_comment(line: &[u8]) -> bool
 pub(crate) fn has_version(parts: &Parts<'_>) -> bool
     ensures { result ≡ is_version parts.now }
 {
-    parts.count() == 2 && parts.has(0, b"classes") && parts.has(1, b"1")
+    parts.len() == 2 && parts.has(0, b"classes") && parts.has(1, b"1")
 }
 
 // Whether there are two words, `border` first.
@@ -38,7 +38,7 @@ pub(crate) fn has_border(parts: &Parts<'_>) -> bool
     ensures value { result ≡ ((length parts.now == 2) && bytes_eq (word parts.now 0) (codes "border")) }
     ensures two { result ≡ true → length parts.now ≡ 2 }
 {
-    parts.count() == 2 && parts.has(0, b"border")
+    parts.len() == 2 && parts.has(0, b"border")
 }
 
 // The name of a class, where it keeps the rule of names.
@@ -78,8 +78,9 @@ pub(crate) fn read_distances(alloc: Global, parts: &Parts<'_>) -> Result<Option<
     ensures none { IfOk result (λ o. IfNone o (distances_in (drop 1 parts.now) ≡ None)) }
 {
     let mut row = Vec::new(alloc);
-    for at in 1..parts.count() {
-        let Some(distance) = read_number(parts.at(at), 0, GREATEST_COST) else {
+    let mut rest = parts.behind(1);
+    while let Some(part) = rest.next() {
+        let Some(distance) = read_number(part, 0, GREATEST_COST) else {
             return Ok(None);
         };
         row.push(distance as u32)?;

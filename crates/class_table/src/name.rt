@@ -2,7 +2,7 @@
 ghost use Rattle.std.specs.Prelude.{◌≡◌, ◌<◌, ◌≤◌, not, length, position, IfSome};
 ghost use Rattle.std.specs.List.{position_or_len};
 ghost use Rattle.text_words.specs.Words.{is_blank};
-ghost use Rattle.class_table.specs.Words.{unled, behind, unended, name_in};
+ghost use Rattle.class_table.specs.Words.{trim_start, behind_word, trim_end, name_in};
 
 use text_words::is_blank;
 
@@ -11,20 +11,20 @@ use text_words::is_blank;
 pub(crate) fn name_of(line: &[u8]) -> &[u8]
     ensures { result.now ≡ name_in line.now }
 {
-    without_blanks_behind(without_blanks_before(behind_word(behind_word(line))))
+    trim_end(trim_start(behind_word(behind_word(line))))
 }
 
 // What stands behind the first word.
 fn behind_word(text: &[u8]) -> &[u8]
-    ensures { result.now ≡ behind text.now }
+    ensures { result.now ≡ behind_word text.now }
 {
-    let led = without_blanks_before(text);
+    let led = trim_start(text);
     &led[word_end(led)..]
 }
 
 // The text without the blanks at its front.
-fn without_blanks_before(text: &[u8]) -> &[u8]
-    ensures { result.now ≡ unled text.now }
+fn trim_start(text: &[u8]) -> &[u8]
+    ensures { result.now ≡ trim_start text.now }
 {
     &text[blanks_end(text)..]
 }
@@ -62,8 +62,8 @@ fn first_blank(text: &[u8]) -> Option<usize>
 }
 
 // The text without the blanks at its end.
-fn without_blanks_behind(text: &[u8]) -> &[u8]
-    ensures { result.now ≡ unended text.now }
+fn trim_end(text: &[u8]) -> &[u8]
+    ensures { result.now ≡ trim_end text.now }
 {
     let mut end = text.len();
     while end > 0 && is_blank(text[end - 1]) {

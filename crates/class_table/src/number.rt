@@ -13,11 +13,11 @@ pub(crate) fn read_number(text: &[u8], least: u128, most: u128) -> Option<u128>
     ensures value { result ≡ number_in least most text.now }
     ensures bound { IfSome result (λ n. n ≤ most) }
 {
-    within(text, least, most)
+    number_within(text, least, most)
 }
 
 // The same, by the rule of numbers.
-fn within(text: &[u8], least: u128, most: u128) -> Option<u128>
+fn number_within(text: &[u8], least: u128, most: u128) -> Option<u128>
     ensures found { IfSome result (λ n. IsNumber least most text.now n) }
     ensures none { IfNone result ((n : ℕ) → ¬ IsNumber least most text.now n) }
 {

@@ -1,16 +1,17 @@
 // The reader of class tables.
 ghost use Rattle.std.specs.Prelude.{◌≡◌, ◌≤◌, length, IfOk, IfErr};
 ghost use Rattle.agg_base.specs.Lines.{rows_from};
-ghost use Rattle.class_table.specs.Classes.{Classes};
-ghost use Rattle.class_table.specs.Said.{nothing_said};
+ghost use Rattle.class_table.specs.Table.{Table};
+ghost use Rattle.class_table.specs.Content.{no_content};
 ghost use Rattle.class_table.specs.Reading.{lines_say, reading};
-ghost use Rattle.class_table.specs.Gives.{Gives, said};
+ghost use Rattle.class_table.specs.Gives.{Gives, content_of};
 ghost use Rattle.class_table.specs.Faults.{IsFaultOf, IsFirstFault};
 ghost use Rattle.class_table.specs.declared.fault.TableFault.{TableFault};
 ghost use Rattle.class_table.specs.TableTexts.{IsTableText};
 
 use crate::draft::Draft;
 use crate::{Table, TableFault};
+use agg_base::limits::TEXT_BYTES;
 use agg_base::lines;
 use std::alloc::Global;
 
@@ -25,10 +26,10 @@ use std::alloc::Global;
 /// `Name`, `RepeatedClass`, `Diagonal` in this order, and for a row `Count` before `Number`. Where the text ends too early it is `End` at the
 /// number of lines plus 1, or `Version` there for a text without any line that counts. The format is this project's own.
 pub fn read(alloc: Global, bytes: &[u8]) -> Result<Table, TableFault>
-    requires { length bytes.now ≤ 536870912 }
+    requires { length bytes.now ≤ TEXT_BYTES }
     ensures found { IfOk result (λ t. IsTableText bytes.now t) }
     ensures fault { IfErr result (λ f. IsFaultOf bytes.now f) }
-    ensures spelled { (t : Classes) → IsTableText bytes.now t → Gives (λ u. u) result (Ok t) }
+    ensures spelled { (t : Table) → IsTableText bytes.now t → Gives (λ u. u) result (Ok t) }
     ensures faulty { (f : TableFault) → IsFirstFault bytes.now f → Gives (λ u. u) result (Err f) }
 {
     read_text(alloc, bytes)
@@ -37,7 +38,7 @@ pub fn read(alloc: Global, bytes: &[u8]) -> Result<Table, TableFault>
 // The table that all lines give.
 #[tactic(auto, unfolding(crate::specs::Reading::reading))]
 fn read_text(alloc: Global, bytes: &[u8]) -> Result<Table, TableFault>
-    requires { length bytes.now ≤ 536870912 }
+    requires { length bytes.now ≤ TEXT_BYTES }
     ensures { Gives (λ t. t) result (reading bytes.now) }
 {
     let (draft, last) = read_lines(alloc, bytes)?;
@@ -46,8 +47,8 @@ fn read_text(alloc: Global, bytes: &[u8]) -> Result<Table, TableFault>
 
 // What all lines say, and how many they are.
 fn read_lines(alloc: Global, bytes: &[u8]) -> Result<(Draft, u32), TableFault>
-    requires { length bytes.now ≤ 536870912 }
-    ensures said { Gives (λ p. said p.0) result (lines_say nothing_said (rows_from 1 bytes.now)) }
+    requires { length bytes.now ≤ TEXT_BYTES }
+    ensures said { Gives (λ p. content_of p.0) result (lines_say no_content (rows_from 1 bytes.now)) }
     ensures last { IfOk result (λ p. p.1 ≡ length (rows_from 1 bytes.now)) }
 {
     let mut draft = Draft::start(alloc);

@@ -2,7 +2,7 @@
 use agg_base::Text;
 use std::marker::Model;
 
-/// Classes by number: names, thresholds (in twice the square unit), distances row by row, the factors of the axes and the border weight.
+/// Table by number: names, thresholds (in twice the square unit), distances row by row, the factors of the axes and the border weight.
 #[derive(Drop)]
 pub struct Table {
     wide: u32,
@@ -14,17 +14,17 @@ pub struct Table {
 }
 
 impl Model for Table {
-    ghost use Rattle.class_table.specs.Classes.{Classes, IsClasses};
+    ghost use Rattle.class_table.specs.Table.{Table, IsTable};
 
-    ghost Value = { Classes };
+    ghost Value = { Table };
 
     ghost view = { λ t. record { wide = t.wide; high = t.high; border = t.border; names = t.names.items; threshold = t.thresholds.items; distance = t.distances.items } };
 
-    ghost invariant = { λ t. IsClasses (record { wide = t.wide; high = t.high; border = t.border; names = t.names.items; threshold = t.thresholds.items; distance = t.distances.items }) };
+    ghost invariant = { λ t. IsTable (record { wide = t.wide; high = t.high; border = t.border; names = t.names.items; threshold = t.thresholds.items; distance = t.distances.items }) };
 }
 
 ghost use Rattle.std.specs.Prelude.{◌≡◌, ◌<◌, length};
-ghost use Rattle.class_table.specs.Classes.{IsClasses, threshold_of, distance_of};
+ghost use Rattle.class_table.specs.Table.{IsTable, threshold_of, distance_of};
 
 impl Table {
     // The table of what was read.
@@ -35,7 +35,7 @@ impl Table {
         thresholds: Vec<i128>,
         distances: Vec<u32>,
     ) -> Table
-        requires { IsClasses (record { wide = unit.0; high = unit.1; border = border; names = names.items; threshold = thresholds.items; distance = distances.items }) }
+        requires { IsTable (record { wide = unit.0; high = unit.1; border = border; names = names.items; threshold = thresholds.items; distance = distances.items }) }
         ensures { result ≡ record { wide = unit.0; high = unit.1; border = border; names = names.items; threshold = thresholds.items; distance = distances.items } }
     {
         Table {
@@ -48,18 +48,11 @@ impl Table {
         }
     }
 
-    /// What every table keeps: 1 to 64 classes, whose names differ; factors of 1 to 100; distances and a border weight of 0 to 10,000;
-    /// thresholds of 0 to 10^30; no distance from a class to itself. It takes no memory.
-    pub fn rules(&self)
-        ensures { IsClasses self.now }
-    {
-        let _ = &self.border;
-    }
-
     /// The factors of the axes: what a step of 1 in x and in y stands for. Each is 1 where the text has no `unit` line. It takes no memory.
     pub fn unit(&self) -> (u32, u32)
         ensures wide { result.0 ≡ self.now.wide }
         ensures high { result.1 ≡ self.now.high }
+        ensures rules { IsTable self.now }
     {
         (self.wide, self.high)
     }
@@ -72,8 +65,12 @@ impl Table {
     }
 
     /// The names of the classes, by class. It takes no memory.
+    ///
+    /// Every table keeps these rules: 1 to 64 classes, whose names differ; factors of 1 to 100; distances and a border weight of 0 to
+    /// 10,000; thresholds of 0 to 10^30; no distance from a class to itself.
     pub fn names(&self) -> &[Text]
-        ensures { result.now ≡ self.now.names }
+        ensures names { result.now ≡ self.now.names }
+        ensures rules { IsTable self.now }
     {
         &self.names
     }

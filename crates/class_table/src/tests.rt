@@ -52,7 +52,6 @@ fn a_table_is_read(rt: HostRuntime) -> Result<(), Fail> {
         assert_eq!(rt; table.distance(1, 1), 0);
     }
     crosses(&table);
-    table.rules();
     Ok(())
 }
 

@@ -2,7 +2,7 @@
 use Rattle.std.proofs.Common.{◌≡◌, ◌∙◌, ℕ, ℤ, List, [], ◌∷◌, ◌++◌, codes, refl, ap, sym, append_assoc, IfOk, Result}
 use Rattle.std.specs.Fmt.{decimal, signed_decimal}
 use Rattle.std.proofs.lemmas.Result.{IfOk-weaker}
-use Rattle.agg_base.specs.Texts.{spaced}
+use Rattle.agg_base.specs.Texts.{text_of_words}
 use Rattle.plane_edge.specs.declared.edge.Edge.{Edge}
 use Rattle.plane_edge.specs.declared.spot.Spot.{Spot}
 use Rattle.grid_reader.specs.declared.fault.GridFault.TheVariants as grid
@@ -20,9 +20,9 @@ two : (a b : List ℕ) → a ++ (32 ∷ (b ++ 10 ∷ [])) ≡ (a ++ (32 ∷ b)) 
 two a b = sym (append_assoc a (32 ∷ b) (10 ∷ []))
 
 -- words behind words
-spaced-more : (x y : List ℕ) (xs ys : List (List ℕ)) → spaced ((x ∷ xs) ++ (y ∷ ys)) ≡ spaced (x ∷ xs) ++ (32 ∷ spaced (y ∷ ys))
-spaced-more x y [] ys = refl
-spaced-more x y (z ∷ xs) ys = ap (λ t. x ++ (32 ∷ t)) (spaced-more z y xs ys) ∙ sym (append_assoc x (32 ∷ spaced (z ∷ xs)) (32 ∷ spaced (y ∷ ys)))
+text_of_words-more : (x y : List ℕ) (xs ys : List (List ℕ)) → text_of_words ((x ∷ xs) ++ (y ∷ ys)) ≡ text_of_words (x ∷ xs) ++ (32 ∷ text_of_words (y ∷ ys))
+text_of_words-more x y [] ys = refl
+text_of_words-more x y (z ∷ xs) ys = ap (λ t. x ++ (32 ∷ t)) (text_of_words-more z y xs ys) ∙ sym (append_assoc x (32 ∷ text_of_words (z ∷ xs)) (32 ∷ text_of_words (y ∷ ys)))
 
 pub cell_line : (row column : ℕ) → codes "refused: map Cell " ++ (decimal row ++ (32 ∷ (decimal column ++ 10 ∷ []))) ≡ map_line (grid.Cell row column)
 unfolding map_line
@@ -37,20 +37,20 @@ unfolding weight_line
 light_line area sum = ap (λ t. codes "refused: weights NoWeight " ++ t) (two (decimal area) (signed_decimal sum))
 
 pub overlap_line : (a b : ℕ) (s : Spot)
-    → codes "refused: coverage Overlap " ++ (decimal a ++ (32 ∷ (decimal b ++ (32 ∷ (spaced (spot_words s) ++ 10 ∷ []))))) ≡ cover_line (cover.Overlap a b s)
+    → codes "refused: coverage Overlap " ++ (decimal a ++ (32 ∷ (decimal b ++ (32 ∷ (text_of_words (spot_words s) ++ 10 ∷ []))))) ≡ cover_line (cover.Overlap a b s)
 unfolding cover_line
 overlap_line a b s = ap (λ t. codes "refused: coverage Overlap " ++ t)
-    (ap (λ t. decimal a ++ (32 ∷ t)) (two (decimal b) (spaced (spot_words s))) ∙ two (decimal a) (decimal b ++ (32 ∷ spaced (spot_words s))))
+    (ap (λ t. decimal a ++ (32 ∷ t)) (two (decimal b) (text_of_words (spot_words s))) ∙ two (decimal a) (decimal b ++ (32 ∷ text_of_words (spot_words s))))
 
 pub crossing_line : (e f : Edge) (s : Spot)
-    → codes "refused: coverage Crossing " ++ (spaced (edge_words e) ++ (32 ∷ (spaced (edge_words f) ++ (32 ∷ (spaced (spot_words s) ++ 10 ∷ []))))) ≡ cover_line (cover.Crossing e f s)
+    → codes "refused: coverage Crossing " ++ (text_of_words (edge_words e) ++ (32 ∷ (text_of_words (edge_words f) ++ (32 ∷ (text_of_words (spot_words s) ++ 10 ∷ []))))) ≡ cover_line (cover.Crossing e f s)
 unfolding cover_line
 crossing_line e f s = ap (λ t. codes "refused: coverage Crossing " ++ t) (
-    ap (λ t. spaced (edge_words e) ++ (32 ∷ t)) (two (spaced (edge_words f)) (spaced (spot_words s)))
-    ∙ two (spaced (edge_words e)) (spaced (edge_words f) ++ (32 ∷ spaced (spot_words s)))
-    ∙ ap (λ t. (spaced (edge_words e) ++ (32 ∷ t)) ++ 10 ∷ []) (sym (joined f s))
-    ∙ ap (λ t. t ++ 10 ∷ []) (sym (spaced-more (signed_decimal e.low.x) (signed_decimal f.low.x) (signed_decimal e.low.y ∷ signed_decimal e.high.x ∷ signed_decimal e.high.y ∷ [])
+    ap (λ t. text_of_words (edge_words e) ++ (32 ∷ t)) (two (text_of_words (edge_words f)) (text_of_words (spot_words s)))
+    ∙ two (text_of_words (edge_words e)) (text_of_words (edge_words f) ++ (32 ∷ text_of_words (spot_words s)))
+    ∙ ap (λ t. (text_of_words (edge_words e) ++ (32 ∷ t)) ++ 10 ∷ []) (sym (joined f s))
+    ∙ ap (λ t. t ++ 10 ∷ []) (sym (text_of_words-more (signed_decimal e.low.x) (signed_decimal f.low.x) (signed_decimal e.low.y ∷ signed_decimal e.high.x ∷ signed_decimal e.high.y ∷ [])
     (signed_decimal f.low.y ∷ signed_decimal f.high.x ∷ signed_decimal f.high.y ∷ spot_words s))))
   where
-    joined : (f : Edge) (s : Spot) → spaced (edge_words f ++ spot_words s) ≡ spaced (edge_words f) ++ (32 ∷ spaced (spot_words s))
-    joined f s = spaced-more (signed_decimal f.low.x) (codes "at") (signed_decimal f.low.y ∷ signed_decimal f.high.x ∷ signed_decimal f.high.y ∷ []) (signed_decimal s.x ∷ signed_decimal s.y ∷ signed_decimal s.m ∷ [])
+    joined : (f : Edge) (s : Spot) → text_of_words (edge_words f ++ spot_words s) ≡ text_of_words (edge_words f) ++ (32 ∷ text_of_words (spot_words s))
+    joined f s = text_of_words-more (signed_decimal f.low.x) (codes "at") (signed_decimal f.low.y ∷ signed_decimal f.high.x ∷ signed_decimal f.high.y ∷ []) (signed_decimal s.x ∷ signed_decimal s.y ∷ signed_decimal s.m ∷ [])

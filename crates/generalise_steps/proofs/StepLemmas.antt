@@ -2,18 +2,18 @@
 use Rattle.std.proofs.Common.{◌≡◌, ◌≢◌, ℕ, ℤ, List, Result, Ok, Err, IfOk, refl, sym, subst}
 use Rattle.std.specs.Result.{MatchResult}
 use Rattle.agg_base.specs.declared.text.NoMemory.{NoMemory}
-use Rattle.plane_edge.specs.Rings.{Outline}
+use Rattle.plane_edge.specs.Rings.{Area}
 use Rattle.plane_edge.specs.declared.frame.Frame.{Frame}
 use Rattle.grid_reader.specs.GridTexts.{SpellsGrid}
 use Rattle.grid_reader.specs.GridTexts as grids
 use Rattle.grid_reader.specs.declared.fault.GridFault.{GridFault}
 use Rattle.grid_reader.specs.declared.fault.GridFault.TheVariants as grid
-use Rattle.class_table.specs.Classes.{Classes}
+use Rattle.class_table.specs.Table.{Table}
 use Rattle.class_table.specs.TableTexts.{IsTableText}
 use Rattle.class_table.specs.Faults as tables
 use Rattle.class_table.specs.declared.fault.TableFault.{TableFault}
 use Rattle.class_table.specs.declared.fault.TableFault.TheVariants as table
-use Rattle.coverage_check.specs.Checked.{CheckedMap}
+use Rattle.coverage_check.specs.Checked.{Checked}
 use Rattle.coverage_check.specs.Kept.{kept_of, odds_of}
 use Rattle.coverage_check.specs.Fault as covers
 use Rattle.coverage_check.specs.declared.fault.CoverFault.{CoverFault}
@@ -62,26 +62,26 @@ pub map_refused : (map text : List ℕ) (f : GridFault) (line : Result (List ℕ
 map_refused map text f (Ok l) h is e real by = halted (Ok l) h (Refuses map text) by (subst (Refuses map text) (sym e) (map_text f real (first_of_map map f is real)))
 map_refused map text f (Err none) h is e real by = halted (Err none) h (Refuses map text) by (tt)
 
-pub table_refused : (map text : List ℕ) (areas : List Outline) (frame : Frame) (f : TableFault) (line : Result (List ℕ) NoMemory) (h : Halt)
+pub table_refused : (map text : List ℕ) (areas : List Area) (frame : Frame) (f : TableFault) (line : Result (List ℕ) NoMemory) (h : Halt)
     → SpellsGrid map areas frame → tables.IsFaultOf text f → IfOk line (λ l. l ≡ table_line f) → IfOk line (λ _. f ≢ table.Memory) → IsHaltBy line h → IfRefused h (Refuses map text)
 table_refused map text areas frame f (Ok l) h grid is e real by =
     halted (Ok l) h (Refuses map text) by (subst (Refuses map text) (sym e) (table_text areas frame f grid real (first_of_table text f is real)))
 table_refused map text areas frame f (Err none) h grid is e real by = halted (Err none) h (Refuses map text) by (tt)
 
-pub cover_refused : (map text : List ℕ) (areas : List Outline) (frame : Frame) (t : Classes) (f : CoverFault) (line : Result (List ℕ) NoMemory) (h : Halt)
+pub cover_refused : (map text : List ℕ) (areas : List Area) (frame : Frame) (t : Table) (f : CoverFault) (line : Result (List ℕ) NoMemory) (h : Halt)
     → SpellsGrid map areas frame → IsTableText text t → covers.IsFaultOf (odds_of (kept_of areas)) f
     → IfOk line (λ l. l ≡ cover_line f) → IfOk line (λ _. f ≢ cover.Memory) → IsHaltBy line h → IfRefused h (Refuses map text)
 cover_refused map text areas frame t f (Ok l) h grid spelled is e real by =
     halted (Ok l) h (Refuses map text) by (subst (Refuses map text) (sym e) (coverage areas frame t f grid spelled real is))
 cover_refused map text areas frame t f (Err none) h grid spelled is e real by = halted (Err none) h (Refuses map text) by (tt)
 
-pub class_refused : (map text : List ℕ) (c : CheckedMap) (t : Classes) (v : ℕ) (line : Result (List ℕ) NoMemory) (h : Halt)
+pub class_refused : (map text : List ℕ) (c : Checked) (t : Table) (v : ℕ) (line : Result (List ℕ) NoMemory) (h : Halt)
     → IsMap map c → IsTableText text t → IsLeastUnknown c.areas t v → IfOk line (λ l. l ≡ class_line v) → IsHaltBy line h → IfRefused h (Refuses map text)
 class_refused map text c t v (Ok l) h is_map spelled least e by =
     halted (Ok l) h (Refuses map text) by (subst (Refuses map text) (sym e) (classes c t v is_map spelled least))
 class_refused map text c t v (Err none) h is_map spelled least e by = halted (Err none) h (Refuses map text) by (tt)
 
-pub weight_refused : (map text : List ℕ) (c : CheckedMap) (t : Classes) (v : ℕ) (sum : ℤ) (line : Result (List ℕ) NoMemory) (h : Halt)
+pub weight_refused : (map text : List ℕ) (c : Checked) (t : Table) (v : ℕ) (sum : ℤ) (line : Result (List ℕ) NoMemory) (h : Halt)
     → IsMap map c → IsTableText text t → IsLeastLight c.areas t v sum → IfOk line (λ l. l ≡ weight_line v sum) → IsHaltBy line h → IfRefused h (Refuses map text)
 weight_refused map text c t v sum (Ok l) h is_map spelled least e by =
     halted (Ok l) h (Refuses map text) by (subst (Refuses map text) (sym e) (weights c t v sum is_map spelled least))

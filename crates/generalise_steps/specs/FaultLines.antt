@@ -1,7 +1,7 @@
 -- The lines that say why a map and a table are refused: `refused:`, where the fault is, its name, and its fields.
 use Rattle.std.specs.Prelude.{ℕ, ℤ, List, [], ◌∷◌, ◌++◌, codes}
 use Rattle.std.specs.Fmt.{decimal, signed_decimal}
-use Rattle.agg_base.specs.Texts.{ended, spaced}
+use Rattle.agg_base.specs.Texts.{text_of_lines, text_of_words}
 use Rattle.plane_edge.specs.declared.edge.Edge.{Edge}
 use Rattle.plane_edge.specs.declared.spot.Spot.{Spot}
 use Rattle.plane_edge.specs.declared.frame.Limit.{Limit}
@@ -17,7 +17,7 @@ use Rattle.coverage_check.specs.declared.fault.CoverFault.TheVariants as cover
 
 -- one line of words
 abbrev pub refusal : List ℕ → List (List ℕ) → List ℕ
-refusal place words = ended (spaced (codes "refused:" ∷ place ∷ words) ∷ [])
+refusal place words = text_of_lines (text_of_words (codes "refused:" ∷ place ∷ words) ∷ [])
 
 -- ---- the map's text
 

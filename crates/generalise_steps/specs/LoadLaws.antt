@@ -1,19 +1,19 @@
 -- What holds of all maps and tables.
 use Rattle.std.specs.Prelude.{◌≡◌, ℕ, List}
-use Rattle.class_table.specs.Classes.{Classes}
-use Rattle.coverage_check.specs.Checked.{CheckedMap}
-use Rattle.agg_model.specs.Plan.{Plan}
+use Rattle.class_table.specs.Table.{Table}
+use Rattle.coverage_check.specs.Checked.{Checked}
+use Rattle.agg_model.specs.Problem.{Problem}
 use Rattle.generalise_steps.specs.Loads.{Loads}
 use Rattle.generalise_steps.specs.Refusals.{Refuses}
 
 -- they are accepted in one way at most
 abbrev pub OneLoad : Type 0
-OneLoad = (map table : List ℕ) (c d : CheckedMap) (t u : Classes) (p q : Plan) → Loads map table c t p → Loads map table d u q
+OneLoad = (map table : List ℕ) (c d : Checked) (t u : Table) (p q : Problem) → Loads map table c t p → Loads map table d u q
     → (c ≡ d) × (t ≡ u) × (p ≡ q)
 
 -- no line refuses what is accepted
 abbrev pub LoadedWithoutRefusal : Type 0
-LoadedWithoutRefusal = (map table line : List ℕ) (c : CheckedMap) (t : Classes) (p : Plan) → Loads map table c t p → ¬ Refuses map table line
+LoadedWithoutRefusal = (map table line : List ℕ) (c : Checked) (t : Table) (p : Problem) → Loads map table c t p → ¬ Refuses map table line
 
 -- one line at most refuses them
 abbrev pub OneRefusal : Type 0

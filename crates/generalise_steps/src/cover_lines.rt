@@ -1,6 +1,6 @@
 // The lines that refuse a coverage.
 ghost use Rattle.std.specs.Prelude.{◌≡◌, ◌≢◌, Some, IfOk};
-ghost use Rattle.agg_base.specs.Texts.{spaced};
+ghost use Rattle.agg_base.specs.Texts.{text_of_words};
 ghost use Rattle.coverage_check.specs.declared.fault.CoverFault.TheVariants.{Memory};
 ghost use Rattle.generalise_steps.specs.FaultLines.{edge_words, spot_words, cover_line};
 
@@ -15,7 +15,7 @@ use std::fmt;
 struct EdgeWords(Edge);
 
 impl fmt::Display for EdgeWords {
-    ghost output = { λ e. Some (spaced (edge_words e.0)) };
+    ghost output = { λ e. Some (text_of_words (edge_words e.0)) };
 
     fn fmt<W: fmt::Write>(&self, f: &mut fmt::Formatter<W>) -> fmt::Result {
         let Edge { low, high } = self.0;
@@ -28,7 +28,7 @@ impl fmt::Display for EdgeWords {
 struct SpotWords(Spot);
 
 impl fmt::Display for SpotWords {
-    ghost output = { λ s. Some (spaced (spot_words s.0)) };
+    ghost output = { λ s. Some (text_of_words (spot_words s.0)) };
 
     fn fmt<W: fmt::Write>(&self, f: &mut fmt::Formatter<W>) -> fmt::Result {
         let Spot { x, y, m } = self.0;

@@ -6,7 +6,7 @@ use agg_base::{NoMemory, Text};
 pub enum Halt {
     /// A step refuses them. The line says which one and why, and ends with a line feed.
     Refused(Text),
-    /// Memory is wanting.
+    /// Out of memory.
     Memory,
 }
 

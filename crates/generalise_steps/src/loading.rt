@@ -1,9 +1,9 @@
 // From two texts to the problem, step by step. The first step that refuses decides.
 ghost use Rattle.std.specs.Prelude.{◌≡◌, ◌≤◌, ℕ, List, length, IfOk, IfErr, Err};
-ghost use Rattle.plane_edge.specs.Rings.{Outline};
+ghost use Rattle.plane_edge.specs.Rings.{Area};
 ghost use Rattle.plane_edge.specs.declared.frame.Frame.{Frame};
 ghost use Rattle.grid_reader.specs.GridTexts.{SpellsGrid};
-ghost use Rattle.class_table.specs.Classes.{Classes};
+ghost use Rattle.class_table.specs.Table.{Table};
 ghost use Rattle.class_table.specs.TableTexts.{IsTableText};
 ghost use Rattle.area_graph.specs.Problems.{IsProblemOf};
 ghost use Rattle.generalise_steps.specs.Halts.{IfRefused};
@@ -12,6 +12,7 @@ ghost use Rattle.generalise_steps.specs.Refusals.{Refuses};
 
 use crate::graph_lines::{no_weight, unknown_class};
 use crate::{Halt, cover_lines, map_lines, table_lines};
+use agg_base::limits::{MAP_BYTES, TABLE_BYTES};
 use agg_model::Problem;
 use area_graph::{GraphFault, problem_of};
 use class_table::Table;
@@ -33,7 +34,7 @@ pub struct Loaded {
 
 // Reads the map's text.
 fn read_map(alloc: Global, map: &[u8]) -> Result<Coverage, Halt>
-    requires { length map.now ≤ 67108864 }
+    requires { length map.now ≤ MAP_BYTES }
     ensures found { IfOk result (λ c. SpellsGrid map.now c.areas.items c.frame) }
     ensures passed { IfOk result (λ c. c.passed ≡ 0) }
     ensures refused { (table : List ℕ) → IfErr result (λ h. IfRefused h (Refuses map.now table)) }
@@ -46,9 +47,9 @@ fn read_map(alloc: Global, map: &[u8]) -> Result<Coverage, Halt>
 
 // Reads the table's text.
 fn read_table(alloc: Global, table: &[u8]) -> Result<Table, Halt>
-    requires { length table.now ≤ 1048576 }
+    requires { length table.now ≤ TABLE_BYTES }
     ensures found { IfOk result (λ t. IsTableText table.now t) }
-    ensures refused { (map : List ℕ) (areas : List Outline) (frame : Frame) → SpellsGrid map areas frame → IfErr result (λ h. IfRefused h (Refuses map table.now)) }
+    ensures refused { (map : List ℕ) (areas : List Area) (frame : Frame) → SpellsGrid map areas frame → IfErr result (λ h. IfRefused h (Refuses map table.now)) }
 {
     match class_table::read(alloc, table) {
         Ok(table) => Ok(table),
@@ -60,7 +61,7 @@ fn read_table(alloc: Global, table: &[u8]) -> Result<Table, Halt>
 fn check_cover<W: Crew>(alloc: Global, coverage: Coverage, crew: &W) -> Result<Checked, Halt>
     requires passed { coverage.passed ≡ 0 }
     ensures found { (map : List ℕ) → SpellsGrid map coverage.areas.items coverage.frame → IfOk result (λ c. IsMap map c) }
-    ensures refused { (map table : List ℕ) (t : Classes) → SpellsGrid map coverage.areas.items coverage.frame → IsTableText table t
+    ensures refused { (map table : List ℕ) (t : Table) → SpellsGrid map coverage.areas.items coverage.frame → IsTableText table t
         → IfErr result (λ h. IfRefused h (Refuses map table)) }
 {
     match check(alloc, coverage, crew) {
@@ -90,8 +91,8 @@ fn make_problem(alloc: Global, checked: &Checked, table: &Table) -> Result<Probl
 /// `table` for a text, in the `coverage` for borders that cross or areas that overlap, in the `classes` for an area whose class text
 /// is no name of the table, and in the `weights` for an area that weighs less than 1. The answer is the same for every crew.
 pub fn load<W: Crew>(alloc: Global, map: &[u8], table: &[u8], crew: &W) -> Result<Loaded, Halt>
-    requires map { length map.now ≤ 67108864 }
-    requires table { length table.now ≤ 1048576 }
+    requires map { length map.now ≤ MAP_BYTES }
+    requires table { length table.now ≤ TABLE_BYTES }
     ensures found { IfOk result (λ l. Loads map.now table.now l.checked l.table l.problem) }
     ensures refused { (line : List ℕ) → result ≡ Err (Halt.Refused line) → Refuses map.now table.now line }
 {

@@ -4,6 +4,7 @@ use crate::{
     Halt, Loaded, cover_lines, load, loaded_without_refusal_law, map_lines, one_load_law,
     one_refusal_law,
 };
+use agg_base::limits::{MAP_BYTES, TABLE_BYTES};
 use agg_base::{NoMemory, Text};
 use coverage_check::CoverFault;
 use crew_work::Alone;
@@ -22,7 +23,7 @@ const TABLE: &[u8] = b"classes 1\nunit 1 1\nborder 1\nclass 4 1\nclass 4 2\nrow 
 
 // What a map and a table that are short enough give.
 fn loaded(alloc: Global, map: &[u8], table: &[u8]) -> Result<Loaded, Halt> {
-    if map.len() > 67_108_864 || table.len() > 1_048_576 {
+    if map.len() > MAP_BYTES || table.len() > TABLE_BYTES {
         return Err(Halt::Memory);
     }
     load(alloc, map, table, &Alone)

@@ -2,11 +2,10 @@
 use Rattle.std.proofs.Common.{◌≡◌, ℕ, zero, suc, ◌+◌, ◌-◌, ◌<◌, ◌≤◌, ◌==◌, Bool, true, false, cond, List, [], ◌∷◌, length, take, arith, length-append}
 use Rattle.std.specs.Prelude.{slice_index}
 use Rattle.std.specs.List.{slice_split, onto_first}
-use Rattle.std.proofs.lemmas.List.Splits.{length-slice_split}
-use Rattle.std.proofs.lemmas.List.Sums.{count_by-le-length, length-filter}
 use Rattle.agg_base.specs.Lines.{Row, ended_row, rows_of_parts, rows_from}
 use Rattle.agg_base.specs.declared.line.Ending.TheVariants.{Missing, Lf, CrLf}
-use Rattle.text_words.specs.Words.{is_gap, is_filled, gap_words}
+use Rattle.text_words.specs.Words.{is_gap, gap_words}
+use Rattle.text_words.proofs.WordCuts.{few_words}
 use Rattle.grid_reader.specs.Cells.{body_words}
 
 abbrev weight : List (List ℕ) → ℕ
@@ -32,12 +31,7 @@ split_weight p (x ∷ xs) =
 
 words_few : (line : List ℕ) → length (gap_words line) ≤ length line + 1
 unfolding gap_words
-words_few line =
-    let a = length-filter is_filled (slice_split is_gap line) in
-    let b = count_by-le-length is_filled (slice_split is_gap line) in
-    let c = length-slice_split is_gap line in
-    let d = count_by-le-length is_gap line in
-    omega arith
+words_few line = few_words is_gap line
 
 take_few : (n : ℕ) (xs : List ℕ) → length (take n xs) ≤ length xs
 take_few zero xs = omega arith

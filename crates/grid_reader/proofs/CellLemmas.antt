@@ -1,9 +1,8 @@
 -- One more word of cells.
-use Rattle.std.proofs.Common.{◌≡◌, ℕ, ◌+◌, ◌*◌, ◌/◌, ◌%◌, ◌<◌, ◌≤◌, ap, sym, ◌∙◌, arith, subst, List, [], ◌∷◌, ◌++◌, length, take, ℤ, length-append, mul_comm, drop, append_assoc, add-one, drop-cons, to_z, of_z, w32}
+use Rattle.std.proofs.Common.{◌≡◌, ℕ, ◌+◌, ◌*◌, ◌/◌, ◌%◌, ◌<◌, ◌≤◌, ap, sym, ◌∙◌, arith, subst, List, [], ◌∷◌, ◌++◌, length, take, ℤ, length-append, mul_comm, to_z, of_z, w32}
 use Rattle.std.specs.List.{AllZip}
-use Rattle.std.proofs.lemmas.List.{take_all, take-append-drop}
+use Rattle.std.proofs.lemmas.List.{take_all}
 use Rattle.std.proofs.lemmas.Int.{ints, to_z-of_z}
-use Rattle.text_words.specs.Words.{word}
 use Rattle.grid_reader.specs.Numbers.{SpellsCell}
 
 zip_push : {A B : Type 0} (R : A → B → Type 0) (xs : List A) (ys : List B) (x : A) (y : B) → AllZip R xs ys → R x y → AllZip R (xs ++ x ∷ []) (ys ++ y ∷ [])
@@ -28,11 +27,3 @@ place_of_count at columns h = omega (arith, mul_comm (at / columns) columns)
 -- a value that was stored
 pub stored : (z : ℤ) (text : List ℕ) → SpellsCell text z → to_z w32 (of_z w32 z) ≡ z
 stored z text is = let low = is.least in let high = is.most in to_z-of_z w32 z (search (arith, ints))
-
--- the words of a line, parted at one of them
-pub split_at : (before ws more : List (List ℕ)) (at : ℕ) (w : List ℕ) → at < length ws → w ≡ word ws at → (before ++ take at ws) ++ w ∷ (drop (at + 1) ws ++ more) ≡ before ++ ws ++ more
-split_at before ws more at w h is =
-    let cons : drop at ws ≡ w ∷ drop (at + 1) ws = rw (add-one, is) (drop-cons ws at [] h) in
-    let whole : ws ≡ take at ws ++ w ∷ drop (at + 1) ws = sym (take-append-drop at ws) ∙ ap (λ (xs : List (List ℕ)). take at ws ++ xs) cons in
-    let apart : (before ++ take at ws) ++ w ∷ (drop (at + 1) ws ++ more) ≡ before ++ (take at ws ++ w ∷ drop (at + 1) ws) ++ more = simp append_assoc in
-    apart ∙ sym (ap (λ (xs : List (List ℕ)). before ++ xs ++ more) whole)

@@ -5,10 +5,10 @@ use Rattle.std.proofs.lemmas.Slice.Zip.{AllZip-long}
 use Rattle.agg_base.specs.Lines.{Row, rows_from}
 use Rattle.plane_edge.specs.declared.frame.Frame.{Frame}
 use Rattle.plane_edge.specs.declared.frame.Limit.TheVariants.{Areas}
-use Rattle.plane_edge.specs.Rings.{Outline}
-use Rattle.grid_reader.specs.Raster.{Raster}
+use Rattle.plane_edge.specs.Rings.{Area}
+use Rattle.grid_reader.specs.Grid.{Grid}
 use Rattle.grid_reader.specs.Cells.{body_words}
-use Rattle.grid_reader.specs.Header.{Head, no_head}
+use Rattle.grid_reader.specs.Header.{Draft, new_draft}
 use Rattle.grid_reader.specs.Numbers.{SpellsCell}
 use Rattle.grid_reader.specs.Reading.{EndsHeader}
 use Rattle.grid_reader.specs.Whole.{SaysWhole}
@@ -25,9 +25,9 @@ use Rattle.grid_reader.proofs.SomePatches.{patches_of}
 use Rattle.grid_reader.proofs.SomeAreas.{areas_of_patches}
 
 abbrev Answer : List ℕ → Type 0
-Answer text = ((areas : List Outline) × (frame : Frame) × SpellsGrid text areas frame) ⊎ ((f : GridFault) × IsFirstFault text f)
+Answer text = ((areas : List Area) × (frame : Frame) × SpellsGrid text areas frame) ⊎ ((f : GridFault) × IsFirstFault text f)
 
-of_grid : (text : List ℕ) (g : Raster) (frame : Frame) → IsGridText text g frame → Answer text
+of_grid : (text : List ℕ) (g : Grid) (frame : Frame) → IsGridText text g frame → Answer text
 of_grid text g frame is =
     let patches = patches_of g in
     elim (areas_of_patches g is.keeps patches.number patches.count patches.are) as (λ _. Answer text) [
@@ -35,7 +35,7 @@ of_grid text g frame is =
       | inr many ↦ inr (Limit Areas, in_patches g frame is (refl, many))
     ]
 
-of_whole : (text : List ℕ) (head : Head) (body : List Row) (whole : Whole) → EndsHeader no_head (rows_from 1 text) head body → SaysWhole head whole → whole.columns * whole.rows ≤ 524288 → Answer text
+of_whole : (text : List ℕ) (head : Draft) (body : List Row) (whole : Whole) → EndsHeader new_draft (rows_from 1 text) head body → SaysWhole head whole → whole.columns * whole.rows ≤ 524288 → Answer text
 of_whole text head body whole ends says few =
     let some = some_counts text head body ends whole.columns whole.rows says.columns_are says.rows_are in
     elim (body_or whole.columns (whole.columns * whole.rows) (body_words body) some.0) as (λ _. Answer text) [
@@ -58,7 +58,7 @@ of_whole text head body whole ends says few =
     words_count : (parts : List (List ℕ)) (values : List ℤ) (total : ℕ) → AllZip SpellsCell parts values → length values ≡ total → length parts ≡ total
     words_count parts values total zip count = sym (AllZip-long SpellsCell parts values zip) ∙ count
 
-of_header : (text : List ℕ) (head : Head) (body : List Row) → EndsHeader no_head (rows_from 1 text) head body → Answer text
+of_header : (text : List ℕ) (head : Draft) (body : List Row) → EndsHeader new_draft (rows_from 1 text) head body → Answer text
 of_header text head body ends = elim (end_or head (end_number (rows_from 1 text) body)) as (λ _. Answer text) [
   | inl whole ↦ of_whole text head body whole.0 ends whole.1 whole.2
   | inr fault ↦ inr (fault.0, at_end head body ends fault.1)
@@ -66,7 +66,7 @@ of_header text head body ends = elim (end_or head (end_number (rows_from 1 text)
 
 -- each text spells a grid or has a first fault
 pub grid_or : (text : List ℕ) → Answer text
-grid_or text = elim (header_or no_head (rows_from 1 text)) as (λ _. Answer text) [
+grid_or text = elim (header_or new_draft (rows_from 1 text)) as (λ _. Answer text) [
   | inl ends ↦ of_header text ends.0 ends.1 ends.2
   | inr fails ↦ inr (fails.0, in_header fails.1)
 ]

@@ -6,7 +6,7 @@ use Rattle.std.specs.Char.{is_ascii_digit}
 use Rattle.std.proofs.lemmas.Bool.Decides.{nat_tests, Decides-eqb}
 use Rattle.std.proofs.lemmas.Str.{IsUtf8-from_ascii}
 use Rattle.std.proofs.Math.Seq.{drop-length}
-use Rattle.json_text.specs.NumberTest.{run, unsigned, is_digits, is_power, is_fraction, is_rest, is_bare_number, is_json_number}
+use Rattle.json_text.specs.NumberTest.{run, strip_sign, is_digits, is_power, is_fraction, is_rest, is_bare_number, is_json_number}
 use Rattle.json_text.proofs.Cases.{both, either, by_cases_of}
 
 ascii_none : IsAscii []
@@ -36,7 +36,7 @@ run_ascii (x ∷ t) more =
     let n : run (x ∷ t) ≡ 0 = rw e refl in
     subst (λ (k : ℕ). IsAscii (drop k (x ∷ t))) n more)
 
-unsigned_ascii : (t : List ℕ) → IsAscii (unsigned t) → IsAscii t
+unsigned_ascii : (t : List ℕ) → IsAscii (strip_sign t) → IsAscii t
 unsigned_ascii t more =
     by_cases_of ((slice_index t 0 == 43) || (slice_index t 0 == 45)) _
     (λ e.
@@ -55,15 +55,15 @@ digits_ascii t h =
 power_ascii : (t : List ℕ) → is_power t ≡ true → IsAscii t
 power_ascii [] h = ascii_none
 power_ascii (x ∷ t) h =
-    elim (either (length (x ∷ t) == 0) (((x == 101) || (x == 69)) && is_digits (unsigned t)) h) [
+    elim (either (length (x ∷ t) == 0) (((x == 101) || (x == 69)) && is_digits (strip_sign t)) h) [
       | inl e ↦ absurd (let none : length (x ∷ t) ≡ 0 = (Decides-eqb (length (x ∷ t)) 0).0 e in omega arith)
       | inr e ↦ power_parts x t e
     ]
   where
-    power_parts : (x : ℕ) (t : List ℕ) → (((x == 101) || (x == 69)) && is_digits (unsigned t)) ≡ true → IsAscii (x ∷ t)
+    power_parts : (x : ℕ) (t : List ℕ) → (((x == 101) || (x == 69)) && is_digits (strip_sign t)) ≡ true → IsAscii (x ∷ t)
     power_parts x t e =
-        let parts = both ((x == 101) || (x == 69)) (is_digits (unsigned t)) e in
-        let more : IsAscii t = unsigned_ascii t (digits_ascii (unsigned t) parts.1) in
+        let parts = both ((x == 101) || (x == 69)) (is_digits (strip_sign t)) e in
+        let more : IsAscii t = unsigned_ascii t (digits_ascii (strip_sign t) parts.1) in
         elim (either (x == 101) (x == 69) parts.0) [
           | inl k ↦ (let same : x ≡ 101 = (Decides-eqb x 101).0 k in ascii_cons x t (omega arith) more)
           | inr k ↦ (let same : x ≡ 69 = (Decides-eqb x 69).0 k in ascii_cons x t (omega arith) more)

@@ -1,5 +1,4 @@
-pub mod LabelLemmas
-pub mod ForestLemmas
+pub mod PatchLemmas
 pub mod NumberLemmas
 pub mod AreaLemmas
 pub mod MemberLemmas

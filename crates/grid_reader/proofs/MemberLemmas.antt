@@ -8,15 +8,17 @@ use Rattle.std.proofs.lemmas.List.Elements.{All-get_or, filter-append, All-nil, 
 use Rattle.std.proofs.lemmas.List.Sums.{sum_by-set, sum_by-cons}
 use Rattle.std.proofs.Math.ListN.{length-set}
 use Rattle.std.specs.Fmt.{signed_decimal}
-use Rattle.plane_edge.specs.Rings.{Outline}
-use Rattle.grid_reader.specs.Raster.{Raster}
+use Rattle.std.specs.declared.alloc.Global.{Global}
+use Rattle.plane_edge.specs.Rings.{Area}
+use Rattle.grid_reader.specs.Grid.{Grid}
 use Rattle.grid_reader.specs.Walks.{InOnePatch}
 use Rattle.grid_reader.specs.Patches.{ArePatches}
 use Rattle.grid_reader.specs.Areas.{is_number, members, area_at, AreSides, AreAreas}
-use Rattle.grid_reader.specs.Members.{IsAreaOf, AreMembers, lists, list_at, put}
+use Rattle.grid_reader.specs.Members.{IsAreaOf, AreMembers, list_at, put}
+use Rattle.agg_base.specs.Lists.{lists_of}
 use Rattle.json_text.proofs.Cases.{by_cases_of, false_true}
-use Rattle.grid_reader.proofs.LabelLemmas.{split_last, patch_value}
-use Rattle.grid_reader.proofs.ForestLemmas.{range_more}
+use Rattle.grid_reader.proofs.PatchLemmas.{split_last, patch_value}
+use Rattle.union_find.proofs.StepLemmas.{range_more}
 
 -- the members among one cell more
 pub members_more : (number : ℕ → Option ℕ) (p n : ℕ) → members number p (n + 1) ≡ members number p n ++ filter (λ i. is_number p (number i)) (n ∷ [])
@@ -92,7 +94,7 @@ cell_done number n count xs ys None is low e m = subst (λ (zs : List (List ℕ)
 cell_done number n count xs ys (Some q) is low e m = cell_put number n count q xs ys is (low q is) e m
 
 -- the list of a patch that lists hold
-pub list_held : {A : Type 0} (vs : List (Vec ℕ A)) (d : Vec ℕ A) (p : ℕ) → p < length vs → list_at (lists vs) p ≡ (slice_index_or vs p d).items
+pub list_held : (vs : List (Vec ℕ Global)) (d : Vec ℕ Global) (p : ℕ) → p < length vs → list_at (lists_of vs) p ≡ (slice_index_or vs p d).items
 list_held vs d p h = get_or-map (λ v. v.items) vs p d [] h
 
 -- a cell's number is below their count
@@ -134,7 +136,7 @@ members_filled number p (suc n) i h e =
     subst (λ (m : ℕ). 0 < length (members number p m)) (add-one n) more
 
 -- the areas of the patches' cells are the areas of the grid
-pub members_areas : (g : Raster) (number : ℕ → Option ℕ) (count : ℕ) (xs : List (List ℕ)) (areas : List Outline) → ArePatches g number count → AreMembers number (length g.cells) count xs → length areas ≡ count
+pub members_areas : (g : Grid) (number : ℕ → Option ℕ) (count : ℕ) (xs : List (List ℕ)) (areas : List Area) → ArePatches g number count → AreMembers number (length g.cells) count xs → length areas ≡ count
     → ((p : ℕ) → p < count → IsAreaOf g (list_at xs p) (area_at areas p)) → AreAreas g areas
 members_areas g number count xs areas patches m long each = record {
   number = number;
@@ -154,12 +156,12 @@ members_areas g number count xs areas patches m long each = record {
 }
 
 -- each patch has cells, which are cells of the grid
-pub patch_filled : (g : Raster) (number : ℕ → Option ℕ) (count : ℕ) (xs : List (List ℕ)) → ArePatches g number count → AreMembers number (length g.cells) count xs → (p : ℕ) → p < count → 0 < length (list_at xs p)
+pub patch_filled : (g : Grid) (number : ℕ → Option ℕ) (count : ℕ) (xs : List (List ℕ)) → ArePatches g number count → AreMembers number (length g.cells) count xs → (p : ℕ) → p < count → 0 < length (list_at xs p)
 patch_filled g number count xs patches m p low =
     let w = patches.all p low in
     subst (λ (zs : List ℕ). 0 < length zs) (sym (m.each p low)) (members_filled number p (length g.cells) w.0 w.1 w.2)
 
-pub patch_inside : (g : Raster) (number : ℕ → Option ℕ) (count : ℕ) (xs : List (List ℕ)) → AreMembers number (length g.cells) count xs → (p : ℕ) → p < count → All (λ i. i < length g.cells) (list_at xs p)
+pub patch_inside : (g : Grid) (number : ℕ → Option ℕ) (count : ℕ) (xs : List (List ℕ)) → AreMembers number (length g.cells) count xs → (p : ℕ) → p < count → All (λ i. i < length g.cells) (list_at xs p)
 patch_inside g number count xs m p low =
     subst (λ (zs : List ℕ). All (λ i. i < length g.cells) zs) (sym (m.each p low))
     (All-weaker (λ i. (i < length g.cells) × (number i ≡ Some p)) (λ i. i < length g.cells) (λ i h. h.0) (members number p (length g.cells)) (members_have number p (length g.cells)))

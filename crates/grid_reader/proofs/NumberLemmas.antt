@@ -3,13 +3,13 @@ use Rattle.std.proofs.Common.{◌≡◌, ◌≢◌, ℕ, ◌+◌, ◌<◌, ◌�
 use Rattle.std.specs.Prelude.{◌↔◌}
 use Rattle.std.proofs.Math.ListN.{get_or-append}
 use Rattle.std.proofs.lemmas.List.{get_or_push}
-use Rattle.grid_reader.specs.Raster.{Raster, value_at}
+use Rattle.grid_reader.specs.Grid.{Grid, value_at}
 use Rattle.grid_reader.specs.Walks.{InOnePatch}
 use Rattle.grid_reader.specs.Patches.{AreNumbered, AreLeaders, number_at}
-use Rattle.grid_reader.proofs.LabelLemmas.{split_last, patch_itself, patch_back, patch_along, patch_value}
+use Rattle.grid_reader.proofs.PatchLemmas.{split_last, patch_itself, patch_back, patch_along, patch_value}
 
 -- what the last cell's number must keep
-record IsNext (g : Raster) (at : ℕ) (old new : ℕ → Option ℕ) (count more : ℕ) : Type 0 where
+record IsNext (g : Grid) (at : ℕ) (old new : ℕ → Option ℕ) (count more : ℕ) : Type 0 where
   pub agree : (i : ℕ) → i < at → new i ≡ old i
   pub no_data : (new at ≡ None) ↔ (value_at g at ≡ g.nodata)
   pub one_patch : (i p q : ℕ) → i < at → old i ≡ Some p → new at ≡ Some q → (p ≡ q) ↔ InOnePatch g i at
@@ -21,7 +21,7 @@ record IsNext (g : Raster) (at : ℕ) (old new : ℕ → Option ℕ) (count more
 one_some : (p q : ℕ) → Some p ≡ Some q → p ≡ q
 one_some p q e = cc
 
-numbered_more : (g : Raster) (at : ℕ) (old new : ℕ → Option ℕ) (count more : ℕ) → AreNumbered g at old count → IsNext g at old new count more → AreNumbered g (at + 1) new more
+numbered_more : (g : Grid) (at : ℕ) (old new : ℕ → Option ℕ) (count more : ℕ) → AreNumbered g at old count → IsNext g at old new count more → AreNumbered g (at + 1) new more
 numbered_more g at old new count more before next = record {
   no_data = λ i h. split_last at i ((new i ≡ None) ↔ (value_at g i ≡ g.nodata)) h
       (λ b. subst (λ (x : Option ℕ). (x ≡ None) ↔ (value_at g i ≡ g.nodata)) (sym (next.agree i b)) (before.no_data i b))
@@ -55,7 +55,7 @@ numbered_more g at old new count more before next = record {
 }
 
 -- a cell without data
-pub numbered_none : (g : Raster) (at : ℕ) (old new : ℕ → Option ℕ) (count : ℕ) → AreNumbered g at old count → ((i : ℕ) → i < at → new i ≡ old i) → new at ≡ None → value_at g at ≡ g.nodata → AreNumbered g (at + 1) new count
+pub numbered_none : (g : Grid) (at : ℕ) (old new : ℕ → Option ℕ) (count : ℕ) → AreNumbered g at old count → ((i : ℕ) → i < at → new i ≡ old i) → new at ≡ None → value_at g at ≡ g.nodata → AreNumbered g (at + 1) new count
 numbered_none g at old new count before agree is none = numbered_more g at old new count count before (record {
   agree = agree;
   no_data = (λ _. none, λ _. is);
@@ -70,7 +70,7 @@ numbered_none g at old new count before agree is none = numbered_more g at old n
     no_some p e = cc
 
 -- the first cell of a patch
-pub numbered_first : (g : Raster) (at : ℕ) (old new : ℕ → Option ℕ) (count : ℕ) (leader : ℕ → ℕ) → AreLeaders g leader → at < length g.cells → AreNumbered g at old count → ((i : ℕ) → i < at → new i ≡ old i) → new at ≡ Some count → value_at g at ≢ g.nodata → leader at ≡ at → AreNumbered g (at + 1) new (count + 1)
+pub numbered_first : (g : Grid) (at : ℕ) (old new : ℕ → Option ℕ) (count : ℕ) (leader : ℕ → ℕ) → AreLeaders g leader → at < length g.cells → AreNumbered g at old count → ((i : ℕ) → i < at → new i ≡ old i) → new at ≡ Some count → value_at g at ≢ g.nodata → leader at ≡ at → AreNumbered g (at + 1) new (count + 1)
 numbered_first g at old new count leader leads inside before agree is some first = numbered_more g at old new count (count + 1) before (record {
   agree = agree;
   no_data = (λ e. absurd (no_some count (sym e ∙ is)), λ e. absurd (some e));
@@ -93,7 +93,7 @@ numbered_first g at old new count leader leads inside before agree is some first
     no_some p e = cc
 
 -- a further cell of a patch
-pub numbered_further : (g : Raster) (at : ℕ) (old new : ℕ → Option ℕ) (count : ℕ) (leader : ℕ → ℕ) → AreLeaders g leader → at < length g.cells → AreNumbered g at old count → ((i : ℕ) → i < at → new i ≡ old i) → new at ≡ old (leader at) → value_at g at ≢ g.nodata → leader at ≢ at → AreNumbered g (at + 1) new count
+pub numbered_further : (g : Grid) (at : ℕ) (old new : ℕ → Option ℕ) (count : ℕ) (leader : ℕ → ℕ) → AreLeaders g leader → at < length g.cells → AreNumbered g at old count → ((i : ℕ) → i < at → new i ≡ old i) → new at ≡ old (leader at) → value_at g at ≢ g.nodata → leader at ≢ at → AreNumbered g (at + 1) new count
 numbered_further g at old new count leader leads inside before agree is some further =
     let l = leader at in
     let low : l ≤ at = leads.low at inside in
@@ -116,7 +116,7 @@ numbered_further g at old new count leader leads inside before agree is some fur
     })
 
 -- no cell has a number yet
-pub numbered_start : (g : Raster) (number : ℕ → Option ℕ) → AreNumbered g 0 number 0
+pub numbered_start : (g : Grid) (number : ℕ → Option ℕ) → AreNumbered g 0 number 0
 numbered_start g number = record {
   no_data = λ i h. absurd (omega arith);
   one_patch = λ i j p q h k e f. absurd (omega arith);

@@ -4,9 +4,9 @@ use Rattle.std.specs.List.{filter}
 use Rattle.std.proofs.lemmas.List.{ext_get_or}
 use Rattle.plane_edge.specs.declared.edge.Edge.{Edge}
 use Rattle.plane_edge.specs.declared.point.Point.{Point}
-use Rattle.plane_edge.specs.Rings.{Outline, ends_of, steps_of_ring}
+use Rattle.plane_edge.specs.Rings.{Area, ends_of, steps_of_ring}
 use Rattle.plane_edge.proofs.EqualLemmas.{points_equal, edges_equal}
-use Rattle.grid_reader.specs.Raster.{Raster}
+use Rattle.grid_reader.specs.Grid.{Grid}
 use Rattle.grid_reader.specs.Areas.{place_of, is_number, members, area_at, AreSides, AreAreas}
 use Rattle.grid_reader.proofs.MemberLemmas.{members_more}
 use Rattle.grid_reader.proofs.OneNumbering.{one_number, one_count}
@@ -34,7 +34,7 @@ one_edge e f s =
     edges_equal e f (record { low_x = ap (λ (p : Point). p.x) low; low_y = ap (λ (p : Point). p.y) low; high_x = ap (λ (p : Point). p.x) high; high_y = ap (λ (p : Point). p.y) high })
 
 -- cells have one list of sides
-one_sides : (g : Raster) (cells : List ℕ) (a b : List Edge) → AreSides g cells a → AreSides g cells b → a ≡ b
+one_sides : (g : Grid) (cells : List ℕ) (a b : List Edge) → AreSides g cells a → AreSides g cells b → a ≡ b
 one_sides g cells a b s t =
     let rings : s.rings ≡ t.rings = map_injective (λ (ring : List Point). map place_of ring) one_ring s.rings t.rings (s.rings_are ∙ sym t.rings_are) in
     map_injective ends_of one_edge a b (s.steps_are ∙ ap (flat_map steps_of_ring) rings ∙ sym t.steps_are)
@@ -50,11 +50,11 @@ same_members a b p (suc n) agree =
     members_more a p n ∙ ap₂ (λ (xs : List ℕ) (ys : List ℕ). xs ++ ys) (same_members a b p n (λ j low. agree j (omega arith))) (same_last a b p n (agree n (omega arith))) ∙ sym (members_more b p n) in
     subst (λ (m : ℕ). members a p m ≡ members b p m) (add-one n) more
 
-same_outline : (a b : Outline) → a.class ≡ b.class → a.steps ≡ b.steps → a ≡ b
+same_outline : (a b : Area) → a.class ≡ b.class → a.steps ≡ b.steps → a ≡ b
 same_outline a b c s = ap (λ (x : List ℕ). record a { class = x }) c ∙ ap (λ (x : List Edge). record b { steps = x }) s
 
 -- a grid has one list of areas
-pub areas_one : (g : Raster) (areas others : List Outline) → AreAreas g areas → AreAreas g others → areas ≡ others
+pub areas_one : (g : Grid) (areas others : List Area) → AreAreas g areas → AreAreas g others → areas ≡ others
 areas_one g areas others is also =
     let n = length g.cells in
     let long : length areas ≡ length others = one_count g n (length areas) (length others) is.number also.number is.patches also.patches in

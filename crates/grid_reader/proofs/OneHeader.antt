@@ -10,7 +10,7 @@ use Rattle.plane_edge.specs.declared.frame.Frame.TheVariants.{Scaled}
 use Rattle.text_words.specs.Words.{word, words}
 use Rattle.grid_reader.specs.HeaderLines.{IsBlankLine, IsHeaderLine}
 use Rattle.grid_reader.specs.Numbers.{SpellsCell}
-use Rattle.grid_reader.specs.Header.{Head, Sets, AddsWords, AreCentred, IsHeaderFault}
+use Rattle.grid_reader.specs.Header.{Draft, Sets, AddsWords, AreCentred, IsHeaderFault}
 use Rattle.grid_reader.specs.Reading.{EndsHeader, FailsHeader}
 use Rattle.grid_reader.specs.Whole.{LacksWord, SaysWhole, HasManyCells, IsEndFault}
 use Rattle.grid_reader.specs.declared.draft.Name.{Name}
@@ -26,7 +26,7 @@ use Rattle.json_text.proofs.Cases.{false_true}
 pub one_value : (text : List ℕ) (y z : ℤ) → SpellsCell text y → SpellsCell text z → y ≡ z
 one_value text y z a b = one_whole text y z a.whole b.whole
 
-one_sets : (name : Name) (h : Head) (text : List ℕ) (e f : Head) → Sets name h text e → Sets name h text f → e ≡ f
+one_sets : (name : Name) (h : Draft) (text : List ℕ) (e f : Draft) → Sets name h text e → Sets name h text f → e ≡ f
 one_sets Columns h text e f a b = a.then_is ∙ ap (λ (n : ℕ). record h { columns = Some n }) (sym a.count_is.value ∙ b.count_is.value) ∙ sym b.then_is
 one_sets Rows h text e f a b = a.then_is ∙ ap (λ (n : ℕ). record h { rows = Some n }) (sym a.count_is.value ∙ b.count_is.value) ∙ sym b.then_is
 one_sets Left h text e f a b = a.then_is ∙ sym b.then_is
@@ -38,7 +38,7 @@ one_sets Centre h text e f a b = absurd a
 pub one_name : (o : Option Name) (m n : Name) → o ≡ Some m → o ≡ Some n → m ≡ n
 one_name o m n a b = cc
 
-one_adds : (h : Head) (parts : List (List ℕ)) (e f : Head) → AddsWords h parts e → AddsWords h parts f → e ≡ f
+one_adds : (h : Draft) (parts : List (List ℕ)) (e f : Draft) → AddsWords h parts e → AddsWords h parts f → e ≡ f
 one_adds h parts e f a b =
     one_sets a.name h (word parts 1) e f a.sets (subst (λ (n : Name). Sets n h (word parts 1) f) (one_name _ b.name a.name b.name_is a.name_is) b.sets)
 
@@ -51,7 +51,7 @@ no_letter line blank is =
 abbrev HeaderKind : ℕ → List (List ℕ) → GridFault → Type 0
 HeaderKind number parts fault = ((fault ≡ Header number) × ¬ (AreCentred parts)) ⊎ ((fault ≡ Centred number) × AreCentred parts)
 
-header_kind : (h : Head) (number : ℕ) (parts : List (List ℕ)) (fault : GridFault) → IsHeaderFault h number parts fault → HeaderKind number parts fault
+header_kind : (h : Draft) (number : ℕ) (parts : List (List ℕ)) (fault : GridFault) → IsHeaderFault h number parts fault → HeaderKind number parts fault
 header_kind h number parts Memory is = absurd is
 header_kind h number parts (Header line) is = inl (ap Header is.0, is.1)
 header_kind h number parts (Centred line) is = inr (ap Centred is.0, is.1)
@@ -59,17 +59,17 @@ header_kind h number parts (Cell row column) is = absurd is
 header_kind h number parts (Count found) is = absurd is
 header_kind h number parts (Limit limit) is = absurd is
 
-one_header_fault : (h : Head) (number : ℕ) (parts : List (List ℕ)) (f g : GridFault) → IsHeaderFault h number parts f → IsHeaderFault h number parts g → f ≡ g
+one_header_fault : (h : Draft) (number : ℕ) (parts : List (List ℕ)) (f g : GridFault) → IsHeaderFault h number parts f → IsHeaderFault h number parts g → f ≡ g
 one_header_fault h number parts f g a b =
     elim (header_kind h number parts f a) as (λ _. f ≡ g) [
       | inl header ↦ elim (header_kind h number parts g b) as (λ _. f ≡ g) [ inl too ↦ header.0 ∙ sym too.0 | inr centred ↦ absurd (header.1 centred.1) ]
       | inr centred ↦ elim (header_kind h number parts g b) as (λ _. f ≡ g) [ inl header ↦ absurd (header.1 centred.1) | inr too ↦ centred.0 ∙ sym too.0 ]
     ]
 
-pub no_centre : (h : Head) (parts : List (List ℕ)) (e : Head) → AreCentred parts → ¬ (AddsWords h parts e)
+pub no_centre : (h : Draft) (parts : List (List ℕ)) (e : Draft) → AreCentred parts → ¬ (AddsWords h parts e)
 no_centre h parts e centred adds = subst (λ (n : Name). Sets n h (word parts 1) e) (one_name _ adds.name Centre adds.name_is centred) adds.sets
 
-fault_adds : (h : Head) (number : ℕ) (parts : List (List ℕ)) (fault : GridFault) (e : Head) → IsHeaderFault h number parts fault → ¬ (AddsWords h parts e)
+fault_adds : (h : Draft) (number : ℕ) (parts : List (List ℕ)) (fault : GridFault) (e : Draft) → IsHeaderFault h number parts fault → ¬ (AddsWords h parts e)
 fault_adds h number parts Memory e is adds = is
 fault_adds h number parts (Header line) e is adds = is.2 e adds
 fault_adds h number parts (Centred line) e is adds = no_centre h parts e is.1 adds
@@ -80,7 +80,7 @@ fault_adds h number parts (Limit limit) e is adds = is
 -- ---- all lines
 
 -- a header ends in one way
-pub ends_one : (h e f : Head) (rows body more : List Row) → EndsHeader h rows e body → EndsHeader h rows f more → (e ≡ f) × (body ≡ more)
+pub ends_one : (h e f : Draft) (rows body more : List Row) → EndsHeader h rows e body → EndsHeader h rows f more → (e ≡ f) × (body ≡ more)
 ends_one h e f [] body more a b = (sym a.0 ∙ b.0, a.1 ∙ sym b.1)
 ends_one h e f (row ∷ rows) body more a b = elim a as (λ _. (e ≡ f) × (body ≡ more)) [
   | inl blank ↦ elim b as (λ _. (e ≡ f) × (body ≡ more)) [
@@ -91,7 +91,7 @@ ends_one h e f (row ∷ rows) body more a b = elim a as (λ _. (e ≡ f) × (bod
   | inr (inl adds) ↦ elim b as (λ _. (e ≡ f) × (body ≡ more)) [
     | inl blank ↦ absurd (no_letter row.text blank.0 adds.0)
     | inr (inl too) ↦ ends_one too.1.0 e f rows body more
-        (subst (λ (n : Head). EndsHeader n rows e body) (one_adds h (words row.text) adds.1.0 too.1.0 adds.1.1 too.1.1) adds.1.2) too.1.2
+        (subst (λ (n : Draft). EndsHeader n rows e body) (one_adds h (words row.text) adds.1.0 too.1.0 adds.1.1 too.1.1) adds.1.2) too.1.2
     | inr (inr ends) ↦ absurd (ends.1 adds.0)
   ]
   | inr (inr ends) ↦ elim b as (λ _. (e ≡ f) × (body ≡ more)) [
@@ -102,7 +102,7 @@ ends_one h e f (row ∷ rows) body more a b = elim a as (λ _. (e ≡ f) × (bod
 ]
 
 -- a header that ends has no fault
-pub ends_fails : (h e : Head) (rows body : List Row) (fault : GridFault) → EndsHeader h rows e body → ¬ (FailsHeader h rows fault)
+pub ends_fails : (h e : Draft) (rows body : List Row) (fault : GridFault) → EndsHeader h rows e body → ¬ (FailsHeader h rows fault)
 ends_fails h e [] body fault a b = b
 ends_fails h e (row ∷ rows) body fault a b = elim a as (λ _. ⊥) [
   | inl blank ↦ elim b as (λ _. ⊥) [
@@ -113,7 +113,7 @@ ends_fails h e (row ∷ rows) body fault a b = elim a as (λ _. ⊥) [
   | inr (inl adds) ↦ elim b as (λ _. ⊥) [
     | inl blank ↦ no_letter row.text blank.0 adds.0
     | inr (inl too) ↦ ends_fails too.1.0 e rows body fault
-        (subst (λ (n : Head). EndsHeader n rows e body) (one_adds h (words row.text) adds.1.0 too.1.0 adds.1.1 too.1.1) adds.1.2) too.1.2
+        (subst (λ (n : Draft). EndsHeader n rows e body) (one_adds h (words row.text) adds.1.0 too.1.0 adds.1.1 too.1.1) adds.1.2) too.1.2
     | inr (inr fails) ↦ fault_adds h row.number (words row.text) fault adds.1.0 fails.1 adds.1.1
   ]
   | inr (inr ends) ↦ elim b as (λ _. ⊥) [
@@ -124,7 +124,7 @@ ends_fails h e (row ∷ rows) body fault a b = elim a as (λ _. ⊥) [
 ]
 
 -- a header has one first fault
-pub fails_one : (h : Head) (rows : List Row) (f g : GridFault) → FailsHeader h rows f → FailsHeader h rows g → f ≡ g
+pub fails_one : (h : Draft) (rows : List Row) (f g : GridFault) → FailsHeader h rows f → FailsHeader h rows g → f ≡ g
 fails_one h [] f g a b = absurd a
 fails_one h (row ∷ rows) f g a b = elim a as (λ _. f ≡ g) [
   | inl blank ↦ elim b as (λ _. f ≡ g) [
@@ -135,7 +135,7 @@ fails_one h (row ∷ rows) f g a b = elim a as (λ _. f ≡ g) [
   | inr (inl adds) ↦ elim b as (λ _. f ≡ g) [
     | inl blank ↦ absurd (no_letter row.text blank.0 adds.0)
     | inr (inl too) ↦ fails_one too.1.0 rows f g
-        (subst (λ (n : Head). FailsHeader n rows f) (one_adds h (words row.text) adds.1.0 too.1.0 adds.1.1 too.1.1) adds.1.2) too.1.2
+        (subst (λ (n : Draft). FailsHeader n rows f) (one_adds h (words row.text) adds.1.0 too.1.0 adds.1.1 too.1.1) adds.1.2) too.1.2
     | inr (inr fails) ↦ absurd (fault_adds h row.number (words row.text) g adds.1.0 fails.1 adds.1.1)
   ]
   | inr (inr fails) ↦ elim b as (λ _. f ≡ g) [
@@ -159,17 +159,17 @@ same_frame : (size low left : List ℕ) (other_size other_low other_left : List 
 same_frame size low left other_size other_low other_left a b c = (cc)
 
 -- a header says one thing
-pub says_one : (h : Head) (v w : Whole) → SaysWhole h v → SaysWhole h w → v ≡ w
+pub says_one : (h : Draft) (v w : Whole) → SaysWhole h v → SaysWhole h w → v ≡ w
 says_one h v w a b = same_whole v w
     (one_some h.columns v.columns w.columns a.columns_are b.columns_are)
     (one_some h.rows v.rows w.rows a.rows_are b.rows_are)
     (a.nodata_is ∙ sym b.nodata_is)
     (a.frame_is ∙ same_frame a.size a.low a.left b.size b.low b.left (one_some h.size a.size b.size a.size_is b.size_is) (one_some h.left a.left b.left a.left_is b.left_is) (one_some h.low a.low b.low a.low_is b.low_is) ∙ sym b.frame_is)
 
-abbrev EndKind : Head → ℕ → GridFault → Type 0
+abbrev EndKind : Draft → ℕ → GridFault → Type 0
 EndKind h number fault = ((fault ≡ Header number) × LacksWord h) ⊎ ((fault ≡ Limit Cells) × ¬ (LacksWord h) × HasManyCells h)
 
-end_kind : (h : Head) (number : ℕ) (fault : GridFault) → IsEndFault h number fault → EndKind h number fault
+end_kind : (h : Draft) (number : ℕ) (fault : GridFault) → IsEndFault h number fault → EndKind h number fault
 end_kind h number Memory is = absurd is
 end_kind h number (Header line) is = inl (ap Header is.0, is.1)
 end_kind h number (Centred line) is = absurd is
@@ -178,7 +178,7 @@ end_kind h number (Count found) is = absurd is
 end_kind h number (Limit limit) is = inr (ap Limit is.0, is.1, is.2)
 
 -- a header's end has one fault
-pub one_end_fault : (h : Head) (number : ℕ) (f g : GridFault) → IsEndFault h number f → IsEndFault h number g → f ≡ g
+pub one_end_fault : (h : Draft) (number : ℕ) (f g : GridFault) → IsEndFault h number f → IsEndFault h number g → f ≡ g
 one_end_fault h number f g a b =
     elim (end_kind h number f a) as (λ _. f ≡ g) [
       | inl lacks ↦ elim (end_kind h number g b) as (λ _. f ≡ g) [ inl too ↦ lacks.0 ∙ sym too.0 | inr many ↦ absurd (many.1 lacks.1) ]
@@ -188,7 +188,7 @@ one_end_fault h number f g a b =
 none_some : {A : Type 0} (o : Option A) (x : A) → o ≡ None → o ≡ Some x → ⊥
 none_some o x a b = cc
 
-says_lacks : (h : Head) (w : Whole) → SaysWhole h w → ¬ (LacksWord h)
+says_lacks : (h : Draft) (w : Whole) → SaysWhole h w → ¬ (LacksWord h)
 says_lacks h w says lacks = elim lacks as (λ _. ⊥) [
   | inl e ↦ none_some h.columns w.columns e says.columns_are
   | inr (inl e) ↦ none_some h.rows w.rows e says.rows_are
@@ -198,7 +198,7 @@ says_lacks h w says lacks = elim lacks as (λ _. ⊥) [
 ]
 
 -- the end of a whole header has no fault
-pub says_fault : (h : Head) (number : ℕ) (w : Whole) (fault : GridFault) → SaysWhole h w → w.columns * w.rows ≤ 524288 → ¬ (IsEndFault h number fault)
+pub says_fault : (h : Draft) (number : ℕ) (w : Whole) (fault : GridFault) → SaysWhole h w → w.columns * w.rows ≤ 524288 → ¬ (IsEndFault h number fault)
 says_fault h number w fault says few is =
     elim (end_kind h number fault is) as (λ _. ⊥) [
       | inl lacks ↦ says_lacks h w says lacks.1

@@ -2,7 +2,7 @@
 use Rattle.std.proofs.Common.{◌≡◌, ◌⊎◌, ℕ, inl, inr, refl, sym, ◌∙◌, subst, List, Result, Ok, Err, IfOk, IfErr, IsErrAnd}
 use Rattle.plane_edge.specs.declared.coverage.Coverage.{Coverage}
 use Rattle.plane_edge.specs.declared.frame.Frame.{Frame}
-use Rattle.plane_edge.specs.Rings.{Outline}
+use Rattle.plane_edge.specs.Rings.{Area}
 use Rattle.grid_reader.specs.GridTexts.{SpellsGrid, IsFirstFault, IsFaultOf}
 use Rattle.grid_reader.specs.Outcomes.{Reads, FailsBy}
 use Rattle.grid_reader.specs.declared.fault.GridFault.{GridFault}
@@ -10,7 +10,7 @@ use Rattle.grid_reader.specs.declared.fault.GridFault.TheVariants.{Header, Centr
 use Rattle.grid_reader.proofs.LawLemmas.{one_grid_text, grid_no_fault, one_first_fault}
 
 -- a text that spells a grid fails for want of memory alone
-no_fault : (text : List ℕ) (areas : List Outline) (frame : Frame) (f : GridFault) → IsFaultOf text f → SpellsGrid text areas frame → f ≡ Memory
+no_fault : (text : List ℕ) (areas : List Area) (frame : Frame) (f : GridFault) → IsFaultOf text f → SpellsGrid text areas frame → f ≡ Memory
 no_fault text areas frame Memory fault spells = refl
 no_fault text areas frame (Header line) fault spells = absurd (grid_no_fault text areas frame (Header line) spells fault)
 no_fault text areas frame (Centred line) fault spells = absurd (grid_no_fault text areas frame (Centred line) spells fault)
@@ -28,7 +28,7 @@ that_fault text f (Count found) fault first = inl (one_first_fault text (Count f
 that_fault text f (Limit limit) fault first = inl (one_first_fault text (Limit limit) f fault first)
 
 pub spelled_read : (text : List ℕ) (r : Result Coverage GridFault) → IfOk r (λ c. SpellsGrid text c.areas.items c.frame) → IfErr r (λ f. IsFaultOf text f)
-    → (areas : List Outline) (frame : Frame) → SpellsGrid text areas frame → Reads areas frame r
+    → (areas : List Area) (frame : Frame) → SpellsGrid text areas frame → Reads areas frame r
 spelled_read text (Ok c) found fault areas frame spells = one_grid_text text c.areas.items areas c.frame frame found spells
 spelled_read text (Err g) found fault areas frame spells = no_fault text areas frame g fault spells
 
@@ -39,7 +39,7 @@ faulty_fails text (Err g) found fault f first = that_fault text f g fault first
 
 -- a fault that is handed on
 pub handed_reads : (text : List ℕ) (r : Result Coverage GridFault) (g : GridFault) → IsErrAnd r (λ f. f ≡ g) → IsFaultOf text g
-    → (areas : List Outline) (frame : Frame) → SpellsGrid text areas frame → Reads areas frame r
+    → (areas : List Area) (frame : Frame) → SpellsGrid text areas frame → Reads areas frame r
 handed_reads text (Ok c) g is fault areas frame spells = absurd is
 handed_reads text (Err f) g is fault areas frame spells = is ∙ no_fault text areas frame g fault spells
 

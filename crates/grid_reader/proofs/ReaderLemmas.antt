@@ -7,11 +7,11 @@ use Rattle.agg_base.specs.declared.line.Line.{Line}
 use Rattle.agg_base.specs.declared.line.Lines.{Lines}
 use Rattle.text_words.specs.Words.{word, words}
 use Rattle.grid_reader.specs.Cells.{body_words}
-use Rattle.grid_reader.specs.Header.{Head, no_head, Sets}
+use Rattle.grid_reader.specs.Header.{Draft, new_draft, Sets}
 use Rattle.grid_reader.specs.Reading.{EndsHeader, UnlessMemory}
 use Rattle.grid_reader.specs.Body.{body_of}
 use Rattle.grid_reader.specs.Numbers.{SpellsCell}
-use Rattle.grid_reader.specs.Raster.{Raster, IsRaster}
+use Rattle.grid_reader.specs.Grid.{Grid, IsGrid}
 use Rattle.grid_reader.specs.Areas.{AreAreas}
 use Rattle.grid_reader.specs.Faults.{IsPatchFault}
 use Rattle.grid_reader.specs.GridTexts.{IsGridText, SpellsGrid, IsFirstFault, IsFaultOf, end_number}
@@ -26,7 +26,7 @@ use Rattle.grid_reader.specs.declared.draft.Name.TheVariants.{Columns, Rows, Lef
 use Rattle.grid_reader.proofs.BoundLemmas.{rows_weight, body_few, text_few}
 
 -- the lines of cells are among all lines
-ends_weight : (h e : Head) (rows body : List Row) → EndsHeader h rows e body → rows_weight body ≤ rows_weight rows
+ends_weight : (h e : Draft) (rows body : List Row) → EndsHeader h rows e body → rows_weight body ≤ rows_weight rows
 ends_weight h e [] body is = rw is.1 (omega arith)
 ends_weight h e (line ∷ rows) body is = elim is as (λ _. rows_weight body ≤ rows_weight (line ∷ rows)) [
   | inl blank ↦ (let more = ends_weight h e rows body blank.1 in omega arith)
@@ -35,49 +35,49 @@ ends_weight h e (line ∷ rows) body is = elim is as (λ _. rows_weight body ≤
 ]
 
 -- a text has few words of cells
-pub words_room : (text : List ℕ) (e : Head) (body : List Row) → EndsHeader no_head (rows_from 1 text) e body → length (body_words body) ≤ length text + 1
+pub words_room : (text : List ℕ) (e : Draft) (body : List Row) → EndsHeader new_draft (rows_from 1 text) e body → length (body_words body) ≤ length text + 1
 words_room text e body is =
-    let a = ends_weight no_head e (rows_from 1 text) body is in
+    let a = ends_weight new_draft e (rows_from 1 text) body is in
     let b = body_few body in
     let c = text_few text in
     omega arith
 
 -- what is counted is at least 1
-record IsCounted (h : Head) : Type 0 where
+record IsCounted (h : Draft) : Type 0 where
   pub columns : (n : ℕ) → h.columns ≡ Some n → 1 ≤ n
   pub rows : (n : ℕ) → h.rows ≡ Some n → 1 ≤ n
 
 some_same : (m n : ℕ) → 1 ≤ m → Some m ≡ Some n → 1 ≤ n
 some_same m n h e = let same : m ≡ n = cc in omega arith
 
-sets_counted : (name : Name) (h : Head) (text : List ℕ) (e : Head) → Sets name h text e → IsCounted h → IsCounted e
-sets_counted Columns h text e is counted = subst (λ (x : Head). IsCounted x) (sym is.then_is) (record { columns = λ n s. some_same is.count n is.count_is.least s; rows = counted.rows })
-sets_counted Rows h text e is counted = subst (λ (x : Head). IsCounted x) (sym is.then_is) (record { columns = counted.columns; rows = λ n s. some_same is.count n is.count_is.least s })
-sets_counted Left h text e is counted = subst (λ (x : Head). IsCounted x) (sym is.then_is) (record { columns = counted.columns; rows = counted.rows })
-sets_counted Low h text e is counted = subst (λ (x : Head). IsCounted x) (sym is.then_is) (record { columns = counted.columns; rows = counted.rows })
-sets_counted Size h text e is counted = subst (λ (x : Head). IsCounted x) (sym is.then_is) (record { columns = counted.columns; rows = counted.rows })
-sets_counted Nodata h text e is counted = subst (λ (x : Head). IsCounted x) (sym is.then_is) (record { columns = counted.columns; rows = counted.rows })
+sets_counted : (name : Name) (h : Draft) (text : List ℕ) (e : Draft) → Sets name h text e → IsCounted h → IsCounted e
+sets_counted Columns h text e is counted = subst (λ (x : Draft). IsCounted x) (sym is.then_is) (record { columns = λ n s. some_same is.count n is.count_is.least s; rows = counted.rows })
+sets_counted Rows h text e is counted = subst (λ (x : Draft). IsCounted x) (sym is.then_is) (record { columns = counted.columns; rows = λ n s. some_same is.count n is.count_is.least s })
+sets_counted Left h text e is counted = subst (λ (x : Draft). IsCounted x) (sym is.then_is) (record { columns = counted.columns; rows = counted.rows })
+sets_counted Low h text e is counted = subst (λ (x : Draft). IsCounted x) (sym is.then_is) (record { columns = counted.columns; rows = counted.rows })
+sets_counted Size h text e is counted = subst (λ (x : Draft). IsCounted x) (sym is.then_is) (record { columns = counted.columns; rows = counted.rows })
+sets_counted Nodata h text e is counted = subst (λ (x : Draft). IsCounted x) (sym is.then_is) (record { columns = counted.columns; rows = counted.rows })
 sets_counted Centre h text e is counted = absurd is
 
-ends_counted : (h e : Head) (rows body : List Row) → EndsHeader h rows e body → IsCounted h → IsCounted e
-ends_counted h e [] body is counted = subst (λ (x : Head). IsCounted x) is.0 counted
+ends_counted : (h e : Draft) (rows body : List Row) → EndsHeader h rows e body → IsCounted h → IsCounted e
+ends_counted h e [] body is counted = subst (λ (x : Draft). IsCounted x) is.0 counted
 ends_counted h e (line ∷ rows) body is counted = elim is as (λ _. IsCounted e) [
   | inl blank ↦ ends_counted h e rows body blank.1 counted
   | inr (inl adds) ↦ ends_counted adds.1.0 e rows body adds.1.2 (sets_counted adds.1.1.name h (word (words line.text) 1) adds.1.0 adds.1.1.sets counted)
-  | inr (inr ends) ↦ subst (λ (x : Head). IsCounted x) ends.2 counted
+  | inr (inr ends) ↦ subst (λ (x : Draft). IsCounted x) ends.2 counted
 ]
 
 no_some : (n : ℕ) → None ≡ Some n → 1 ≤ n
 no_some n e = (cc)
 
 -- the columns and the rows that a header says are at least 1
-pub some_counts : (text : List ℕ) (e : Head) (body : List Row) → EndsHeader no_head (rows_from 1 text) e body → (columns rows : ℕ) → e.columns ≡ Some columns → e.rows ≡ Some rows → (1 ≤ columns) × (1 ≤ rows)
+pub some_counts : (text : List ℕ) (e : Draft) (body : List Row) → EndsHeader new_draft (rows_from 1 text) e body → (columns rows : ℕ) → e.columns ≡ Some columns → e.rows ≡ Some rows → (1 ≤ columns) × (1 ≤ rows)
 some_counts text e body is columns rows c r =
-    let counted = ends_counted no_head e (rows_from 1 text) body is (record { columns = no_some; rows = no_some }) in
+    let counted = ends_counted new_draft e (rows_from 1 text) body is (record { columns = no_some; rows = no_some }) in
     (counted.columns columns c, counted.rows rows r)
 
 -- the lines from the one that ends the header
-pub header_ends : (h e : Head) (rows : List Row) (first : Option Line) (rest : Lines) → MatchOption first (EndsHeader h rows e []) (λ line. EndsHeader h rows e (row line ∷ rows_left rest)) → EndsHeader h rows e (body_of first rest)
+pub header_ends : (h e : Draft) (rows : List Row) (first : Option Line) (rest : Lines) → MatchOption first (EndsHeader h rows e []) (λ line. EndsHeader h rows e (row line ∷ rows_left rest)) → EndsHeader h rows e (body_of first rest)
 header_ends h e rows None rest is = is
 header_ends h e rows (Some line) rest is = is
 
@@ -97,7 +97,7 @@ first_fault text (Limit limit) P to is = to is
 
 -- the grid that the words behind a whole header spell
 pub raster_of : (columns rows : ℕ) (nodata : ℤ) (cells : List ℤ) (parts : List (List ℕ)) → (1 ≤ columns) × (1 ≤ rows) → columns * rows ≤ 524288 → length parts ≡ columns * rows → AllZip SpellsCell parts cells
-    → IsRaster (record { columns = columns; rows = rows; nodata = nodata; cells = cells })
+    → IsGrid (record { columns = columns; rows = rows; nodata = nodata; cells = cells })
 raster_of columns rows nodata cells parts some few count spelled =
     let long : length cells ≡ length parts = AllZip-long SpellsCell parts cells spelled in
     record { some_column = some.0; some_row = some.1; shape = long ∙ count; few = (let all : length cells ≡ columns * rows = long ∙ count in omega arith) }
@@ -108,7 +108,7 @@ handed (Ok x) f P e p = tt
 handed (Err g) f P e p = subst P (sym e) p
 
 -- the coverage of a grid
-pub grid_spelled : (text : List ℕ) (g : Raster) (frame : Frame) (r : Result Coverage GridFault) → IsGridText text g frame → IfOk r (λ c. AreAreas g c.areas.items) → IfOk r (λ c. c.frame ≡ frame)
+pub grid_spelled : (text : List ℕ) (g : Grid) (frame : Frame) (r : Result Coverage GridFault) → IsGridText text g frame → IfOk r (λ c. AreAreas g c.areas.items) → IfOk r (λ c. c.frame ≡ frame)
     → IfOk r (λ c. SpellsGrid text c.areas.items c.frame)
 grid_spelled text g frame (Err f) is areas same = tt
 grid_spelled text g frame (Ok c) is areas same = record {
@@ -119,6 +119,6 @@ grid_spelled text g frame (Ok c) is areas same = record {
 }
 
 -- the fault of a grid
-pub patch_fault : (text : List ℕ) (g : Raster) (frame : Frame) (r : Result Coverage GridFault) → IsGridText text g frame → IfErr r (λ f. UnlessMemory f (IsPatchFault g f)) → IfErr r (λ f. IsFaultOf text f)
+pub patch_fault : (text : List ℕ) (g : Grid) (frame : Frame) (r : Result Coverage GridFault) → IsGridText text g frame → IfErr r (λ f. UnlessMemory f (IsPatchFault g f)) → IfErr r (λ f. IsFaultOf text f)
 patch_fault text g frame (Ok c) is fault = tt
 patch_fault text g frame (Err f) is fault = first_fault text f (IsPatchFault g f) (in_patches g frame is) fault

@@ -11,8 +11,8 @@ use Rattle.plane_edge.specs.Edges.{is_same_point}
 use Rattle.plane_edge.specs.Order.{is_below}
 use Rattle.plane_edge.specs.declared.edge.Edge.{Edge}
 use Rattle.plane_edge.specs.declared.point.Point.{Point}
-use Rattle.plane_edge.specs.Rings.{Outline, ends_of, step_between, path_from, steps_of_ring}
-use Rattle.grid_reader.specs.Raster.{Raster, IsRaster, value_at}
+use Rattle.plane_edge.specs.Rings.{Area, ends_of, step_between, path_from, steps_of_ring}
+use Rattle.grid_reader.specs.Grid.{Grid, IsGrid, value_at}
 use Rattle.grid_reader.specs.Patches.{ArePatches}
 use Rattle.grid_reader.specs.Areas.{place_of, corners_at, corners_of, area_at, AreAreas, HasManyPatches}
 use Rattle.grid_reader.specs.Members.{IsAreaOf, list_at}
@@ -75,7 +75,7 @@ square_at x y across up = record {
   is = refl;
 }
 
-ring_of_cell : (g : Raster) → IsRaster g → (i : ℕ) → SomeRing (corners_of g i)
+ring_of_cell : (g : Grid) → IsGrid g → (i : ℕ) → SomeRing (corners_of g i)
 ring_of_cell g is i =
     let some_column = is.some_column in
     let some_row = is.some_row in
@@ -87,11 +87,11 @@ ring_of_cell g is i =
     let up : g.rows - 1 - i / g.columns < 524288 = omega arith in
     square_at (i % g.columns) (g.rows - 1 - i / g.columns) across up
 
-record SomeRings (g : Raster) (cells : List ℕ) : Type 0 where
+record SomeRings (g : Grid) (cells : List ℕ) : Type 0 where
   pub rings : List (List Point)
   pub are : map (λ ring. map place_of ring) rings ≡ map (λ i. corners_of g i) cells
 
-rings_of_cells : (g : Raster) → IsRaster g → (cells : List ℕ) → SomeRings g cells
+rings_of_cells : (g : Grid) → IsGrid g → (cells : List ℕ) → SomeRings g cells
 rings_of_cells g is [] = record { rings = []; are = refl }
 rings_of_cells g is (i ∷ cells) =
     let first = ring_of_cell g is i in
@@ -100,11 +100,11 @@ rings_of_cells g is (i ∷ cells) =
 
 -- ---- areas
 
-record SomeArea (g : Raster) (cells : List ℕ) : Type 0 where
-  pub area : Outline
+record SomeArea (g : Grid) (cells : List ℕ) : Type 0 where
+  pub area : Area
   pub is : IsAreaOf g cells area
 
-area_of_cells : (g : Raster) → IsRaster g → (cells : List ℕ) → SomeArea g cells
+area_of_cells : (g : Grid) → IsGrid g → (cells : List ℕ) → SomeArea g cells
 area_of_cells g is cells =
     let some = rings_of_cells g is cells in
     let steps = rings_edges some.rings in
@@ -113,12 +113,12 @@ area_of_cells g is cells =
       is = record { class_is = refl; sides = record { rings = some.rings; rings_are = some.are; steps_are = steps.are } };
     }
 
-record SomeAreas (g : Raster) (xs : List (List ℕ)) (k : ℕ) : Type 0 where
-  pub areas : List Outline
+record SomeAreas (g : Grid) (xs : List (List ℕ)) (k : ℕ) : Type 0 where
+  pub areas : List Area
   pub long : length areas ≡ k
   pub each : (p : ℕ) → p < k → IsAreaOf g (list_at xs p) (area_at areas p)
 
-areas_of_lists : (g : Raster) → IsRaster g → (xs : List (List ℕ)) (k : ℕ) → k ≤ length xs → SomeAreas g xs k
+areas_of_lists : (g : Grid) → IsGrid g → (xs : List (List ℕ)) (k : ℕ) → k ≤ length xs → SomeAreas g xs k
 areas_of_lists g is xs zero most = record { areas = []; long = refl; each = λ p low. absurd (omega arith) }
 areas_of_lists g is xs (suc k) most =
     let before = areas_of_lists g is xs k (omega arith) in
@@ -132,7 +132,7 @@ areas_of_lists g is xs (suc k) most =
     subst (λ (n : ℕ). SomeAreas g xs n) (add-one k) after
 
 -- a grid has areas, or too many patches
-pub areas_of_patches : (g : Raster) → IsRaster g → (number : ℕ → Option ℕ) (count : ℕ) → ArePatches g number count → ((areas : List Outline) × AreAreas g areas × (length areas ≤ 65536)) ⊎ HasManyPatches g
+pub areas_of_patches : (g : Grid) → IsGrid g → (number : ℕ → Option ℕ) (count : ℕ) → ArePatches g number count → ((areas : List Area) × AreAreas g areas × (length areas ≤ 65536)) ⊎ HasManyPatches g
 areas_of_patches g is number count patches =
     by_cases_of (nat_le count 65536) _
     (λ e.

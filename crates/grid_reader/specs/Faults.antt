@@ -4,13 +4,13 @@ use Rattle.std.specs.List.{AllZip}
 use Rattle.grid_reader.specs.Numbers.{SpellsCell}
 use Rattle.grid_reader.specs.Cells.{IsBadCell}
 use Rattle.plane_edge.specs.declared.frame.Limit.TheVariants.{Areas}
-use Rattle.grid_reader.specs.Raster.{Raster}
+use Rattle.grid_reader.specs.Grid.{Grid}
 use Rattle.grid_reader.specs.Areas.{HasManyPatches}
 use Rattle.grid_reader.specs.declared.fault.GridFault.{GridFault}
 use Rattle.grid_reader.specs.declared.fault.GridFault.TheVariants.{Header, Centred, Cell, Count, Limit, Memory}
 
 -- the grid has too many patches
-abbrev pub IsPatchFault : Raster → GridFault → Type 0
+abbrev pub IsPatchFault : Grid → GridFault → Type 0
 IsPatchFault g Memory = ⊥
 IsPatchFault g (Header line) = ⊥
 IsPatchFault g (Centred line) = ⊥

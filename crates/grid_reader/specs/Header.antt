@@ -10,7 +10,7 @@ use Rattle.grid_reader.specs.declared.fault.GridFault.{GridFault}
 use Rattle.grid_reader.specs.declared.fault.GridFault.TheVariants.{Header, Centred, Cell, Count, Limit, Memory}
 
 -- what the header's lines have said so far
-pub record Head : Type 0 where
+pub record Draft : Type 0 where
   pub columns : Option ℕ
   pub rows : Option ℕ
   pub left : Option (List ℕ)
@@ -19,8 +19,8 @@ pub record Head : Type 0 where
   pub nodata : Option ℤ
 
 -- nothing is said
-abbrev pub no_head : Head
-no_head = record { columns = None; rows = None; left = None; low = None; size = None; nodata = None }
+abbrev pub new_draft : Draft
+new_draft = record { columns = None; rows = None; left = None; low = None; size = None; nodata = None }
 
 -- the text is that word, in upper or lower case
 abbrev pub is_named : List ℕ → List ℕ → Bool
@@ -39,41 +39,41 @@ name_in text =
     else None
 
 -- the columns are said, where they were not
-pub record SetsColumns (h : Head) (text : List ℕ) (e : Head) : Type 0 where
+pub record SetsColumns (h : Draft) (text : List ℕ) (e : Draft) : Type 0 where
   pub new : h.columns ≡ None
   pub count : ℕ
   pub count_is : IsCount text count
   pub then_is : e ≡ record h { columns = Some count }
 
-pub record SetsRows (h : Head) (text : List ℕ) (e : Head) : Type 0 where
+pub record SetsRows (h : Draft) (text : List ℕ) (e : Draft) : Type 0 where
   pub new : h.rows ≡ None
   pub count : ℕ
   pub count_is : IsCount text count
   pub then_is : e ≡ record h { rows = Some count }
 
-pub record SetsLeft (h : Head) (text : List ℕ) (e : Head) : Type 0 where
+pub record SetsLeft (h : Draft) (text : List ℕ) (e : Draft) : Type 0 where
   pub new : h.left ≡ None
   pub text_is : IsCornerText text
   pub then_is : e ≡ record h { left = Some text }
 
-pub record SetsLow (h : Head) (text : List ℕ) (e : Head) : Type 0 where
+pub record SetsLow (h : Draft) (text : List ℕ) (e : Draft) : Type 0 where
   pub new : h.low ≡ None
   pub text_is : IsCornerText text
   pub then_is : e ≡ record h { low = Some text }
 
-pub record SetsSize (h : Head) (text : List ℕ) (e : Head) : Type 0 where
+pub record SetsSize (h : Draft) (text : List ℕ) (e : Draft) : Type 0 where
   pub new : h.size ≡ None
   pub text_is : IsSizeText text
   pub then_is : e ≡ record h { size = Some text }
 
-pub record SetsNodata (h : Head) (text : List ℕ) (e : Head) : Type 0 where
+pub record SetsNodata (h : Draft) (text : List ℕ) (e : Draft) : Type 0 where
   pub new : h.nodata ≡ None
   pub value : ℤ
   pub value_is : SpellsCell text value
   pub then_is : e ≡ record h { nodata = Some value }
 
 -- the header says one thing more: what is named was not said before, and the text spells it
-abbrev pub Sets : Name → Head → List ℕ → Head → Type 0
+abbrev pub Sets : Name → Draft → List ℕ → Draft → Type 0
 Sets Columns h text e = SetsColumns h text e
 Sets Rows h text e = SetsRows h text e
 Sets Left h text e = SetsLeft h text e
@@ -83,7 +83,7 @@ Sets Nodata h text e = SetsNodata h text e
 Sets Centre h text e = ⊥
 
 -- the words of a right line of the header: a name and its value
-pub record AddsWords (h : Head) (parts : List (List ℕ)) (e : Head) : Type 0 where
+pub record AddsWords (h : Draft) (parts : List (List ℕ)) (e : Draft) : Type 0 where
   pub two : length parts ≡ 2
   pub name : Name
   pub name_is : name_in (word parts 0) ≡ Some name
@@ -94,9 +94,9 @@ abbrev pub AreCentred : List (List ℕ) → Type 0
 AreCentred parts = name_in (word parts 0) ≡ Some Centre
 
 -- the fault of a line of the header that is not right: it places the grid by a centre, or else breaks another rule
-abbrev pub IsHeaderFault : Head → ℕ → List (List ℕ) → GridFault → Type 0
+abbrev pub IsHeaderFault : Draft → ℕ → List (List ℕ) → GridFault → Type 0
 IsHeaderFault h number parts Memory = ⊥
-IsHeaderFault h number parts (Header line) = (line ≡ number) × ¬ (AreCentred parts) × ((e : Head) → ¬ (AddsWords h parts e))
+IsHeaderFault h number parts (Header line) = (line ≡ number) × ¬ (AreCentred parts) × ((e : Draft) → ¬ (AddsWords h parts e))
 IsHeaderFault h number parts (Centred line) = (line ≡ number) × AreCentred parts
 IsHeaderFault h number parts (Cell row column) = ⊥
 IsHeaderFault h number parts (Count found) = ⊥

@@ -1,7 +1,7 @@
-pub mod Raster
+pub mod Grid
 pub mod Walks
 pub mod Patches
-pub mod Forest
+pub mod Joins
 pub mod Areas
 pub mod Members
 pub mod Faults

@@ -1,8 +1,8 @@
 -- The cells of each patch.
 use Rattle.std.specs.Prelude.{◌≡◌, ℕ, ◌≤◌, ◌<◌, List, [], ◌∷◌, ◌++◌, length, map, slice_index_or, slice_set, sum_by, Option, Some, None, Vec}
-use Rattle.plane_edge.specs.Rings.{Outline}
+use Rattle.plane_edge.specs.Rings.{Area}
 use Rattle.std.specs.Fmt.{signed_decimal}
-use Rattle.grid_reader.specs.Raster.{Raster, value_at}
+use Rattle.grid_reader.specs.Grid.{Grid, value_at}
 use Rattle.grid_reader.specs.Areas.{members, AreSides}
 
 -- the lists that lists hold
@@ -24,6 +24,6 @@ pub record AreMembers (number : ℕ → Option ℕ) (n count : ℕ) (by_patch : 
   pub once : sum_by (λ cells. length cells) by_patch ≤ n
 
 -- the area of these cells, the first of which gives the class
-pub record IsAreaOf (g : Raster) (cells : List ℕ) (area : Outline) : Type 0 where
+pub record IsAreaOf (g : Grid) (cells : List ℕ) (area : Area) : Type 0 where
   pub class_is : area.class ≡ signed_decimal (value_at g (slice_index_or cells 0 0))
   pub sides : AreSides g cells area.steps

@@ -1,6 +1,7 @@
 -- Numbers that a grid spells. Byte 45 is the minus.
 use Rattle.std.specs.Prelude.{◌≡◌, ◌≢◌, ◌≤◌, ℕ, List, length, slice_index, ℤ, pos, neg_ℤ, ◌≤ℤ◌}
 use Rattle.std.specs.Str.Parse.{IsNumeral, digits_value}
+use Rattle.agg_base.specs.declared.limits.TheConstants.{CELLS}
 use Rattle.agg_base.specs.Numbers.{SpellsWhole}
 use Rattle.json_text.specs.Numbers.{IsJsonNumber}
 
@@ -9,7 +10,7 @@ pub record IsCount (digits : List ℕ) (n : ℕ) : Type 0 where
   pub numeral : IsNumeral 10 digits
   pub value : digits_value 10 digits ≡ n
   pub least : 1 ≤ n
-  pub most : n ≤ 524288
+  pub most : n ≤ CELLS
 
 -- a whole number that is at most 2,147,483,647 from 0
 pub record SpellsCell (text : List ℕ) (z : ℤ) : Type 0 where

@@ -2,12 +2,12 @@
 use Rattle.std.specs.Prelude.{◌≡◌, ◌⊎◌, List, Result, Ok, Err}
 use Rattle.plane_edge.specs.declared.coverage.Coverage.{Coverage}
 use Rattle.plane_edge.specs.declared.frame.Frame.{Frame}
-use Rattle.plane_edge.specs.Rings.{Outline}
+use Rattle.plane_edge.specs.Rings.{Area}
 use Rattle.grid_reader.specs.declared.fault.GridFault.{GridFault}
 use Rattle.grid_reader.specs.declared.fault.GridFault.TheVariants.{Memory}
 
 -- these areas and this frame, unless memory ran out
-abbrev pub Reads : List Outline → Frame → Result Coverage GridFault → Type 0
+abbrev pub Reads : List Area → Frame → Result Coverage GridFault → Type 0
 Reads areas frame (Ok coverage) = (coverage.areas.items ≡ areas) × (coverage.frame ≡ frame)
 Reads areas frame (Err fault) = fault ≡ Memory
 

@@ -1,19 +1,20 @@
 -- What a whole header says, and what one may lack.
 use Rattle.std.specs.Prelude.{◌≡◌, ◌⊎◌, ◌<◌, ◌*◌, ℕ, List, Some, None, unwrap_or, pos, neg_ℤ}
+use Rattle.agg_base.specs.declared.limits.TheConstants.{CELLS}
 use Rattle.plane_edge.specs.declared.frame.Limit.TheVariants.{Cells}
 use Rattle.plane_edge.specs.declared.frame.Frame.TheVariants.{Scaled}
-use Rattle.grid_reader.specs.Header.{Head}
+use Rattle.grid_reader.specs.Header.{Draft}
 use Rattle.grid_reader.specs.declared.whole.Whole.{Whole}
 use Rattle.grid_reader.specs.declared.fault.GridFault.{GridFault}
 use Rattle.grid_reader.specs.declared.fault.GridFault.TheVariants.{Header, Centred, Cell, Count, Limit, Memory}
 
 -- a word other than the value for no data is missing
-abbrev pub LacksWord : Head → Type 0
+abbrev pub LacksWord : Draft → Type 0
 LacksWord h = (h.columns ≡ None) ⊎ (h.rows ≡ None) ⊎ (h.left ≡ None) ⊎ (h.low ≡ None) ⊎ (h.size ≡ None)
 
 -- The header says these columns and rows, and the value for no data, which is -9999 where it says none. The frame has the size of cells twice
 -- and the left and the low end of the grid, with the same characters.
-pub record SaysWhole (h : Head) (w : Whole) : Type 0 where
+pub record SaysWhole (h : Draft) (w : Whole) : Type 0 where
   pub left : List ℕ
   pub low : List ℕ
   pub size : List ℕ
@@ -26,15 +27,15 @@ pub record SaysWhole (h : Head) (w : Whole) : Type 0 where
   pub frame_is : w.frame ≡ Scaled size size left low
 
 -- the columns times the rows pass the limit of cells
-pub record HasManyCells (h : Head) : Type 0 where
+pub record HasManyCells (h : Draft) : Type 0 where
   pub columns : ℕ
   pub rows : ℕ
   pub columns_are : h.columns ≡ Some columns
   pub rows_are : h.rows ≡ Some rows
-  pub many : 524288 < columns * rows
+  pub many : CELLS < columns * rows
 
 -- the header that ends at that line lacks a word, or else has too many cells
-abbrev pub IsEndFault : Head → ℕ → GridFault → Type 0
+abbrev pub IsEndFault : Draft → ℕ → GridFault → Type 0
 IsEndFault h number Memory = ⊥
 IsEndFault h number (Header line) = (line ≡ number) × LacksWord h
 IsEndFault h number (Centred line) = ⊥

@@ -2,9 +2,10 @@
 ghost use Rattle.std.specs.Prelude.{◌≡◌, ◌<◌, ◌≤◌, ◌*◌, ℕ, IfOk, IfErr, length, map, All, sum_by};
 ghost use Rattle.std.specs.Fmt.{signed_decimal};
 ghost use Rattle.plane_edge.specs.Rings.{step_count};
-ghost use Rattle.grid_reader.specs.Raster.{value_at};
+ghost use Rattle.grid_reader.specs.Grid.{value_at};
 ghost use Rattle.grid_reader.specs.Areas.{AreAreas, area_at, place_of, corners_of};
-ghost use Rattle.grid_reader.specs.Members.{IsAreaOf, lists, list_at};
+ghost use Rattle.grid_reader.specs.Members.{IsAreaOf, list_at};
+ghost use Rattle.agg_base.specs.Lists.{lists_of};
 
 use crate::grid::Grid;
 use crate::rings::ring_of;
@@ -18,11 +19,11 @@ pub(crate) fn areas_of(
     grid: &Grid,
     members: &[Vec<u32>],
 ) -> Result<Vec<Area>, NoMemory>
-    requires filled { (p : ℕ) → p < length members.now → 0 < length (list_at (lists members.now) p) }
-    requires inside { (p : ℕ) → p < length members.now → All (λ i. i < length grid.now.cells) (list_at (lists members.now) p) }
+    requires filled { (p : ℕ) → p < length members.now → 0 < length (list_at (lists_of members.now) p) }
+    requires inside { (p : ℕ) → p < length members.now → All (λ i. i < length grid.now.cells) (list_at (lists_of members.now) p) }
     ensures long { IfOk result (λ areas. length areas.items ≡ length members.now) }
-    ensures each { IfOk result (λ areas. (p : ℕ) → p < length members.now → IsAreaOf grid.now (list_at (lists members.now) p) (area_at areas.items p)) }
-    ensures few { IfOk result (λ areas. step_count areas.items ≤ 4 * sum_by (λ cells. length cells) (lists members.now)) }
+    ensures each { IfOk result (λ areas. (p : ℕ) → p < length members.now → IsAreaOf grid.now (list_at (lists_of members.now) p) (area_at areas.items p)) }
+    ensures few { IfOk result (λ areas. step_count areas.items ≤ 4 * sum_by (λ cells. length cells) (lists_of members.now)) }
 {
     let mut areas = Vec::with_capacity(alloc, members.len())?;
     for cells in members {

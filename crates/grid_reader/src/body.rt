@@ -29,10 +29,10 @@ pub(crate) fn read_body(
     let Some(line) = first else {
         return cells.finish();
     };
-    if let Err(fault) = cells.take_line(alloc, line.text) {
+    if let Err(fault) = cells.take_line(line.text) {
         return Err(fault);
     }
-    if let Err(fault) = cells.take_lines(alloc, rest) {
+    if let Err(fault) = cells.take_lines(rest) {
         return Err(fault);
     }
     cells.finish()

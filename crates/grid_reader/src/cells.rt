@@ -51,7 +51,7 @@ impl Cells {
     }
 
     // Takes the words of a line.
-    pub(crate) fn take_line(&mut self, alloc: Global, line: &[u8]) -> Result<(), GridFault>
+    pub(crate) fn take_line(&mut self, line: &[u8]) -> Result<(), GridFault>
         requires some { 1 ≤ self.old.columns }
         requires room { self.old.found + length (gap_words line.now) + 1 < 2 ^ 64 }
         ensures columns { OnOk result (self.new.columns ≡ self.old.columns) }
@@ -60,9 +60,9 @@ impl Cells {
         ensures taken { OnOk result ((parts : List (List ℕ)) → HasTaken self.old parts → HasTaken self.new (parts ++ gap_words line.now)) }
         ensures fault { IfErr result (λ f. (parts more : List (List ℕ)) → HasTaken self.old parts → IsCellFault self.old.columns self.old.total (parts ++ gap_words line.now ++ more) f) }
     {
-        let parts = Parts::between_gaps(alloc, line)?;
-        for at in 0..parts.count() {
-            if let Err(fault) = self.take_word(parts.at(at)) {
+        let mut rest = Parts::between_gaps(line);
+        while let Some(word) = rest.next() {
+            if let Err(fault) = self.take_word(word) {
                 return Err(fault);
             }
         }
@@ -72,11 +72,7 @@ impl Cells {
 
 impl Cells {
     // Takes the words of the lines that are left.
-    pub(crate) fn take_lines(
-        &mut self,
-        alloc: Global,
-        rest: &mut Lines<'_>,
-    ) -> Result<(), GridFault>
+    pub(crate) fn take_lines(&mut self, rest: &mut Lines<'_>) -> Result<(), GridFault>
         requires some { 1 ≤ self.old.columns }
         requires room { self.old.found + length (body_words (rows_left rest.old)) + 1 < 2 ^ 64 }
         ensures columns { OnOk result (self.new.columns ≡ self.old.columns) }
@@ -85,7 +81,7 @@ impl Cells {
         ensures fault { IfErr result (λ f. (parts : List (List ℕ)) → HasTaken self.old parts → IsCellFault self.old.columns self.old.total (parts ++ body_words (rows_left rest.old)) f) }
     {
         while let Some(line) = rest.next() {
-            if let Err(fault) = self.take_line(alloc, line.text) {
+            if let Err(fault) = self.take_line(line.text) {
                 return Err(fault);
             }
         }

@@ -11,6 +11,7 @@ use crate::areas::areas_of;
 use crate::grid::Grid;
 use crate::members::members;
 use crate::patches::patches;
+use agg_base::limits::AREAS;
 use plane_edge::{Coverage, Frame, Limit};
 use std::alloc::Global;
 
@@ -22,12 +23,11 @@ pub(crate) fn coverage_of(alloc: Global, grid: &Grid, frame: Frame) -> Result<Co
     ensures fault { IfErr result (λ f. UnlessMemory f (IsPatchFault grid.now f)) }
 {
     let numbered = patches(alloc, grid)?;
-    if numbered.count > 65_536 {
+    if numbered.count as usize > AREAS {
         return Err(GridFault::Limit(Limit::Areas));
     }
     let members = members(alloc, grid, &numbered)?;
     let areas = areas_of(alloc, grid, &members)?;
-    grid.rules();
     Ok(Coverage {
         areas,
         passed: 0,

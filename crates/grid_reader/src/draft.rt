@@ -26,16 +26,16 @@ pub(crate) struct Draft {
 }
 
 impl Model for Draft {
-    ghost use Rattle.grid_reader.specs.Header.{Head};
+    ghost use Rattle.grid_reader.specs.Header.{Draft};
 
-    ghost Value = { Head };
+    ghost Value = { Draft };
 
     ghost view = { λ d. record { columns = d.columns; rows = d.rows; left = d.left; low = d.low; size = d.size; nodata = d.nodata } };
 }
 
 ghost use Rattle.std.specs.Prelude.{◌≡◌, ◌<◌, ◌≤◌, ◌*◌, true, false, IfOk, IfErr, OnOk, length, map};
 ghost use Rattle.std.specs.Char.{to_ascii_lowercase};
-ghost use Rattle.grid_reader.specs.Header.{Head, no_head, name_in, is_named, Sets, SetsColumns, SetsRows, SetsLeft, SetsLow, SetsSize, SetsNodata, AddsWords, IsHeaderFault};
+ghost use Rattle.grid_reader.specs.Header.{Draft, new_draft, name_in, is_named, Sets, SetsColumns, SetsRows, SetsLeft, SetsLow, SetsSize, SetsNodata, AddsWords, IsHeaderFault};
 ghost use Rattle.text_words.specs.Words.{word};
 ghost use Rattle.grid_reader.specs.Reading.{UnlessMemory};
 ghost use Rattle.grid_reader.specs.Whole.{SaysWhole, IsEndFault};
@@ -44,6 +44,7 @@ use crate::GridFault;
 use crate::number::{read_cell, read_corner, read_count, read_size};
 use crate::whole::Whole;
 use agg_base::NoMemory;
+use agg_base::limits::CELLS;
 use plane_edge::{Frame, Limit};
 use std::alloc::Global;
 use text_words::Parts;
@@ -88,7 +89,7 @@ fn name_of(text: &[u8]) -> Option<Name>
 impl Draft {
     // Nothing is said.
     pub(crate) fn start() -> Draft
-        ensures { result ≡ no_head }
+        ensures { result ≡ new_draft }
     {
         Draft {
             columns: None,
@@ -117,7 +118,7 @@ impl Draft {
         if name == Name::Centre {
             return Err(GridFault::Centred { line: number });
         }
-        if parts.count() != 2 {
+        if parts.len() != 2 {
             return Err(GridFault::Header { line: number });
         }
         if self.set(alloc, name, parts.at(1))? {
@@ -130,7 +131,7 @@ impl Draft {
     // Sets what is named, where it was not set and the text spells it.
     fn set(&mut self, alloc: Global, name: Name, text: &[u8]) -> Result<bool, NoMemory>
         ensures set { IfOk result (λ b. b ≡ true → Sets name self.old text.now self.new) }
-        ensures unset { IfOk result (λ b. b ≡ false → (e : Head) → ¬ Sets name self.old text.now e) }
+        ensures unset { IfOk result (λ b. b ≡ false → (e : Draft) → ¬ Sets name self.old text.now e) }
     {
         match name {
             Name::Columns => Ok(self.set_columns(text)),
@@ -146,7 +147,7 @@ impl Draft {
     // Sets the columns.
     fn set_columns(&mut self, text: &[u8]) -> bool
         ensures set { result ≡ true → SetsColumns self.old text.now self.new }
-        ensures unset { result ≡ false → (e : Head) → ¬ SetsColumns self.old text.now e }
+        ensures unset { result ≡ false → (e : Draft) → ¬ SetsColumns self.old text.now e }
     {
         if self.columns.is_some() {
             return false;
@@ -161,7 +162,7 @@ impl Draft {
     // Sets the rows.
     fn set_rows(&mut self, text: &[u8]) -> bool
         ensures set { result ≡ true → SetsRows self.old text.now self.new }
-        ensures unset { result ≡ false → (e : Head) → ¬ SetsRows self.old text.now e }
+        ensures unset { result ≡ false → (e : Draft) → ¬ SetsRows self.old text.now e }
     {
         if self.rows.is_some() {
             return false;
@@ -176,7 +177,7 @@ impl Draft {
     // Sets the left end.
     fn set_left(&mut self, alloc: Global, text: &[u8]) -> Result<bool, NoMemory>
         ensures set { IfOk result (λ b. b ≡ true → SetsLeft self.old text.now self.new) }
-        ensures unset { IfOk result (λ b. b ≡ false → (e : Head) → ¬ SetsLeft self.old text.now e) }
+        ensures unset { IfOk result (λ b. b ≡ false → (e : Draft) → ¬ SetsLeft self.old text.now e) }
     {
         if self.left.is_some() {
             return Ok(false);
@@ -191,7 +192,7 @@ impl Draft {
     // Sets the low end.
     fn set_low(&mut self, alloc: Global, text: &[u8]) -> Result<bool, NoMemory>
         ensures set { IfOk result (λ b. b ≡ true → SetsLow self.old text.now self.new) }
-        ensures unset { IfOk result (λ b. b ≡ false → (e : Head) → ¬ SetsLow self.old text.now e) }
+        ensures unset { IfOk result (λ b. b ≡ false → (e : Draft) → ¬ SetsLow self.old text.now e) }
     {
         if self.low.is_some() {
             return Ok(false);
@@ -206,7 +207,7 @@ impl Draft {
     // Sets the size of cells.
     fn set_size(&mut self, alloc: Global, text: &[u8]) -> Result<bool, NoMemory>
         ensures set { IfOk result (λ b. b ≡ true → SetsSize self.old text.now self.new) }
-        ensures unset { IfOk result (λ b. b ≡ false → (e : Head) → ¬ SetsSize self.old text.now e) }
+        ensures unset { IfOk result (λ b. b ≡ false → (e : Draft) → ¬ SetsSize self.old text.now e) }
     {
         if self.size.is_some() {
             return Ok(false);
@@ -221,7 +222,7 @@ impl Draft {
     // Sets the value that stands for no data.
     fn set_nodata(&mut self, text: &[u8]) -> bool
         ensures set { result ≡ true → SetsNodata self.old text.now self.new }
-        ensures unset { result ≡ false → (e : Head) → ¬ SetsNodata self.old text.now e }
+        ensures unset { result ≡ false → (e : Draft) → ¬ SetsNodata self.old text.now e }
     {
         if self.nodata.is_some() {
             return false;
@@ -238,7 +239,7 @@ impl Draft {
     // What the header says, where it ends at that line.
     pub(crate) fn finish(self, alloc: Global, number: u32) -> Result<Whole, GridFault>
         ensures whole { IfOk result (λ w. SaysWhole self w) }
-        ensures few { IfOk result (λ w. w.columns * w.rows ≤ 524288) }
+        ensures few { IfOk result (λ w. w.columns * w.rows ≤ CELLS) }
         ensures fault { IfErr result (λ f. UnlessMemory f (IsEndFault self number f)) }
     {
         let Draft {
@@ -255,7 +256,7 @@ impl Draft {
         let left = left.ok_or(lacking)?;
         let low = low.ok_or(lacking)?;
         let size = size.ok_or(lacking)?;
-        if u64::from(columns) * u64::from(rows) > 524_288 {
+        if u64::from(columns) * u64::from(rows) > CELLS as u64 {
             return Err(GridFault::Limit(Limit::Cells));
         }
         let frame = Frame::Scaled {

@@ -40,7 +40,7 @@ pub enum GridFault {
     /// The grid has more than 524,288 cells, or more than 65,536 patches.
     #[error("the grid passes a limit: {0:?}")]
     Limit(Limit),
-    /// Memory is wanting. No other cause has this answer.
+    /// Out of memory. No other cause has this answer.
     #[error("out of memory")]
     Memory,
 }

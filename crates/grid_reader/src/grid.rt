@@ -1,4 +1,5 @@
 // A grid of cells.
+use agg_base::limits::CELLS;
 use std::marker::Model;
 
 // Cells row by row, the top row first, and the value that stands for no data.
@@ -11,22 +12,22 @@ pub(crate) struct Grid {
 }
 
 impl Model for Grid {
-    ghost use Rattle.grid_reader.specs.Raster.{Raster, IsRaster};
+    ghost use Rattle.grid_reader.specs.Grid.{Grid, IsGrid};
 
-    ghost Value = { Raster };
+    ghost Value = { Grid };
 
     ghost view = { λ g. record { columns = g.columns; rows = g.rows; nodata = g.nodata; cells = g.cells.items } };
 
-    ghost invariant = { λ g. IsRaster (record { columns = g.columns; rows = g.rows; nodata = g.nodata; cells = g.cells.items }) };
+    ghost invariant = { λ g. IsGrid (record { columns = g.columns; rows = g.rows; nodata = g.nodata; cells = g.cells.items }) };
 }
 
-ghost use Rattle.std.specs.Prelude.{◌≡◌, ◌<◌, length};
-ghost use Rattle.grid_reader.specs.Raster.{IsRaster, value_at};
+ghost use Rattle.std.specs.Prelude.{◌≡◌, ◌<◌, ◌≤◌, length};
+ghost use Rattle.grid_reader.specs.Grid.{IsGrid, value_at};
 
 impl Grid {
     // The grid of these cells.
     pub(crate) fn of(columns: u32, rows: u32, nodata: i32, cells: Vec<i32>) -> Grid
-        requires { IsRaster (record { columns = columns; rows = rows; nodata = nodata; cells = cells.items }) }
+        requires { IsGrid (record { columns = columns; rows = rows; nodata = nodata; cells = cells.items }) }
         ensures { result ≡ record { columns = columns; rows = rows; nodata = nodata; cells = cells.items } }
     {
         Grid {
@@ -37,16 +38,10 @@ impl Grid {
         }
     }
 
-    // What every grid keeps.
-    pub(crate) fn rules(&self)
-        ensures { IsRaster self.now }
-    {
-        let _ = &self.columns;
-    }
-
     // How many columns there are.
     pub(crate) fn columns(&self) -> u32
-        ensures { result ≡ self.now.columns }
+        ensures value { result ≡ self.now.columns }
+        ensures rules { IsGrid self.now }
     {
         self.columns
     }
@@ -67,7 +62,8 @@ impl Grid {
 
     // How many cells there are.
     pub(crate) fn count(&self) -> u32
-        ensures { result ≡ length self.now.cells }
+        ensures value { result ≡ length self.now.cells }
+        ensures few { result ≤ CELLS }
     {
         self.cells.len() as u32
     }

@@ -2,7 +2,6 @@
 ghost use Rattle.std.specs.Prelude.{◌≡◌, ◌∷◌, [], List, IfOk, IfErr, MatchOption, slice_index};
 ghost use Rattle.std.specs.Char.{is_ascii_alphabetic};
 ghost use Rattle.agg_base.specs.Lines.{Row, row, rows_left};
-ghost use Rattle.grid_reader.specs.Header.{Head};
 ghost use Rattle.grid_reader.specs.Reading.{EndsHeader, FailsHeader, UnlessMemory};
 
 use crate::GridFault;
@@ -21,11 +20,11 @@ pub(crate) fn read_header<'a>(
     ensures fault { IfErr result (λ fault. UnlessMemory fault (FailsHeader draft.old (rows_left rest.old) fault)) }
 {
     while let Some(line) = rest.next() {
-        let parts = Parts::of(alloc, line.text)?;
-        if parts.count() == 0 {
+        let parts = Parts::of(line.text);
+        if parts.is_empty() {
             continue;
         }
-        if !begins_with_letter(parts.at(0)) {
+        if !has_letter_first(parts.at(0)) {
             return Ok(Some(line));
         }
         draft.take(alloc, line.number, &parts)?;
@@ -34,7 +33,7 @@ pub(crate) fn read_header<'a>(
 }
 
 // Whether a word begins with an ASCII letter.
-fn begins_with_letter(word: &[u8]) -> bool
+fn has_letter_first(word: &[u8]) -> bool
     ensures { result ≡ is_ascii_alphabetic (slice_index word.now 0) }
 {
     match word {

@@ -2,6 +2,7 @@
 ghost use Rattle.std.specs.Prelude.{◌≡◌, slice_index, ℕ, ℤ, IfSome, IfNone};
 ghost use Rattle.grid_reader.specs.Numbers.{IsCount, SpellsCell, IsCornerText, IsSizeText};
 
+use agg_base::limits::CELLS;
 use agg_base::{Whole, read_whole};
 use json_text::is_number;
 use std::str;
@@ -21,7 +22,7 @@ pub(crate) fn read_count(text: &[u8]) -> Option<u32>
     let Ok(number) = digits.parse::<u32>() else {
         return None;
     };
-    if number < 1 || number > 524_288 {
+    if number < 1 || number as usize > CELLS {
         return None;
     }
     Some(number)

@@ -1,7 +1,7 @@
 // The reader of grids.
 ghost use Rattle.std.specs.Prelude.{◌≡◌, ◌≤◌, ◌+◌, List, length, IfOk, IfErr, IfSome, IfNone};
 ghost use Rattle.agg_base.specs.Lines.{rows_from};
-ghost use Rattle.plane_edge.specs.Rings.{Outline};
+ghost use Rattle.plane_edge.specs.Rings.{Area};
 ghost use Rattle.plane_edge.specs.declared.frame.Frame.{Frame};
 ghost use Rattle.grid_reader.specs.GridTexts.{SpellsGrid, IsGridText, IsFaultOf, IsFirstFault};
 ghost use Rattle.grid_reader.specs.Outcomes.{Reads, FailsBy};
@@ -13,6 +13,7 @@ use crate::coverage::coverage_of;
 use crate::draft::Draft;
 use crate::grid::Grid;
 use crate::header::read_header;
+use agg_base::limits::TEXT_BYTES;
 use agg_base::{Line, lines};
 use plane_edge::{Coverage, Frame};
 use std::alloc::Global;
@@ -38,11 +39,11 @@ use std::alloc::Global;
 /// the line that ends the header, or at the number of lines plus 1, where a name is missing; `Limit(Cells)`; `Cell` at the first word, among as
 /// many as there are cells, that spells none; `Count` of the words; `Limit(Areas)` for more than 65,536 patches.
 pub fn read(alloc: Global, bytes: &[u8]) -> Result<Coverage, GridFault>
-    requires { length bytes.now ≤ 536870912 }
+    requires { length bytes.now ≤ TEXT_BYTES }
     ensures found { IfOk result (λ c. SpellsGrid bytes.now c.areas.items c.frame) }
     ensures passed { IfOk result (λ c. c.passed ≡ 0) }
     ensures fault { IfErr result (λ f. IsFaultOf bytes.now f) }
-    ensures spelled { (areas : List Outline) (frame : Frame) → SpellsGrid bytes.now areas frame → Reads areas frame result }
+    ensures spelled { (areas : List Area) (frame : Frame) → SpellsGrid bytes.now areas frame → Reads areas frame result }
     ensures faulty { (f : GridFault) → IsFirstFault bytes.now f → FailsBy f result }
 {
     let (grid, frame) = read_grid(alloc, bytes)?;
@@ -51,7 +52,7 @@ pub fn read(alloc: Global, bytes: &[u8]) -> Result<Coverage, GridFault>
 
 // The cells that a text spells, and where they lie.
 fn read_grid(alloc: Global, bytes: &[u8]) -> Result<(Grid, Frame), GridFault>
-    requires { length bytes.now ≤ 536870912 }
+    requires { length bytes.now ≤ TEXT_BYTES }
     ensures found { IfOk result (λ p. IsGridText bytes.now p.0 p.1) }
     ensures fault { IfErr result (λ f. IsFaultOf bytes.now f) }
 {
@@ -68,7 +69,7 @@ fn read_grid(alloc: Global, bytes: &[u8]) -> Result<(Grid, Frame), GridFault>
 
 // The number of the line that ends the header, or of the line behind all lines where there is none.
 fn end_number(first: Option<Line<'_>>, bytes: &[u8]) -> u32
-    requires { length bytes.now ≤ 536870912 }
+    requires { length bytes.now ≤ TEXT_BYTES }
     ensures some { IfSome first.entry (λ line. result ≡ line.number) }
     ensures none { IfNone first.entry (result ≡ length (rows_from 1 bytes.now) + 1) }
 {
@@ -80,7 +81,7 @@ fn end_number(first: Option<Line<'_>>, bytes: &[u8]) -> u32
 
 // How many lines a text has.
 fn line_count(bytes: &[u8]) -> u32
-    requires { length bytes.now ≤ 536870912 }
+    requires { length bytes.now ≤ TEXT_BYTES }
     ensures count { result ≡ length (rows_from 1 bytes.now) }
     ensures few { result ≤ length bytes.now + 1 }
 {

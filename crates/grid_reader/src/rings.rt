@@ -4,6 +4,7 @@ ghost use Rattle.grid_reader.specs.Areas.{place_of, corners_at, corners_of};
 
 use crate::grid::Grid;
 use agg_base::NoMemory;
+use agg_base::limits::CELLS;
 use plane_edge::Point;
 use std::alloc::Global;
 
@@ -12,15 +13,14 @@ pub(crate) fn ring_of(alloc: Global, grid: &Grid, cell: u32) -> Result<Vec<Point
     requires { cell < length grid.now.cells }
     ensures { IfOk result (λ ring. map place_of ring.items ≡ corners_of grid.now cell) }
 {
-    grid.rules();
     let columns = grid.columns();
     square(alloc, cell % columns, grid.rows() - 1 - cell / columns)
 }
 
 // The ring of the unit square with this lower left corner.
 fn square(alloc: Global, x: u32, y: u32) -> Result<Vec<Point>, NoMemory>
-    requires x { x < 524288 }
-    requires y { y < 524288 }
+    requires x { x < CELLS }
+    requires y { y < CELLS }
     ensures { IfOk result (λ ring. map place_of ring.items ≡ corners_at x y) }
 {
     let corners = [
@@ -34,8 +34,8 @@ fn square(alloc: Global, x: u32, y: u32) -> Result<Vec<Point>, NoMemory>
 
 // The point with these coordinates.
 fn corner(x: u32, y: u32) -> Point
-    requires x { x ≤ 524288 }
-    requires y { y ≤ 524288 }
+    requires x { x ≤ CELLS }
+    requires y { y ≤ CELLS }
     ensures { place_of result ≡ (pos x, pos y) }
 {
     Point {

@@ -4,7 +4,7 @@ use Rattle.std.specs.Prelude.{codes, None, Some, pos, negsuc}
 use Rattle.agg_base.proofs.WholeText.{spells, sign_is}
 use Rattle.json_text.specs.Tree.{Json, Null, Str, Number, array, object, member_of}
 use Rattle.plane_edge.specs.declared.point.Point.{Point}
-use Rattle.plane_edge.specs.Rings.{Outline}
+use Rattle.plane_edge.specs.Rings.{Area}
 use Rattle.plane_edge.specs.declared.frame.Frame.TheVariants.{Plain, Scaled}
 use Rattle.topo_reader.specs.Arcs.{SpellsArc}
 use Rattle.topo_reader.specs.Rings.{SpellsRing, polygon}
@@ -200,7 +200,7 @@ backwards = record {
   ring_is = refl;
 }
 
-abbrev area : Outline
+abbrev area : Area
 area = record {
   class = codes "a";
   steps =
@@ -282,7 +282,7 @@ corner_ring = record {
   ring_is = refl;
 }
 
-abbrev triangle : Outline
+abbrev triangle : Area
 triangle = record {
   class = codes "a";
   steps = record { low = p; high = q; rising = refl } ∷ record { low = q; high = r; rising = refl } ∷ record { low = p; high = r; rising = refl } ∷ [];

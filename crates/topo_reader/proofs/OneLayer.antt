@@ -5,13 +5,14 @@ use Rattle.std.specs.Fmt.{signed_decimal}
 use Rattle.std.specs.List.{AllByRecursion, AllZip, filter}
 use Rattle.json_text.specs.Tree.{Json, Number, Str, array, object, member_of}
 use Rattle.plane_edge.proofs.EqualLemmas.{points_equal, edges_equal}
-use Rattle.plane_edge.specs.Rings.{Outline, ends_of, steps_of_ring}
+use Rattle.plane_edge.specs.Rings.{Area, ends_of, steps_of_ring}
 use Rattle.plane_edge.specs.declared.edge.Edge.{Edge}
 use Rattle.plane_edge.specs.declared.frame.Frame.{Frame}
 use Rattle.plane_edge.specs.declared.frame.Frame.TheVariants.{Plain, Scaled}
 use Rattle.plane_edge.specs.declared.point.Point.{Point}
 use Rattle.topo_reader.specs.Arcs.{SpellsTransform, SpellsFrame, is_relative, SpellsPosition, SpellsPoint, SpellPoints, SpellsArc}
-use Rattle.topo_reader.specs.Rings.{path_of, SpellsPath, joined, SpellsRing, SpellsPolygon, SpellsRings, polygon, polygons}
+use Rattle.topo_reader.specs.Rings.{path_of, SpellsPath, SpellsRing, SpellsPolygon, SpellsRings, polygon, polygons}
+use Rattle.plane_edge.specs.Paths.{points_along}
 use Rattle.topo_reader.specs.Topology.{Layer, SpellsClass, by_text, by_number, is_passed, SpellsArea, ArePlaces, collection, alone, HasOneName, IsPicked, OneLayer}
 use Rattle.topo_reader.proofs.Values.{some_same, one_answer, number_same, text_same, text_in, text_at, one_array, array_same, object_same, same_whole}
 
@@ -84,7 +85,7 @@ one_ring : (arcs : List (List Point)) (tree : Json) (a b : List Point) → Spell
 one_ring arcs tree a b s t =
     let same = one_array tree s.indexes t.indexes s.list t.list in
     let told = subst (λ (trees : List Json). AllZip (SpellsPath arcs) trees s.paths) same s.told in
-    s.ring_is ∙ ap joined (zip_one (SpellsPath arcs) (one_told arcs) t.indexes s.paths t.paths told t.told) ∙ sym t.ring_is
+    s.ring_is ∙ ap points_along (zip_one (SpellsPath arcs) (one_told arcs) t.indexes s.paths t.paths told t.told) ∙ sym t.ring_is
 
 one_polygon : (arcs : List (List Point)) (tree : Json) (a b : List (List Point)) → SpellsPolygon arcs tree a → SpellsPolygon arcs tree b → a ≡ b
 one_polygon arcs tree a b s t =
@@ -100,12 +101,12 @@ one_rings : (arcs : List (List Point)) (tree : Json) (a b : List (List Point)) �
 one_rings arcs tree a b (polygon part type is each) (polygon other type_2 is_2 each_2) =
     let same = one_answer (member_of tree (codes "arcs")) part other is is_2 in
     one_polygon arcs other a b (subst (λ (part : Json). SpellsPolygon arcs part a) same each) each_2
-one_rings arcs tree a b (polygon part type is each) (polygons others lists type_2 is_2 each_2 joined_2) = other_types (member_of tree (codes "type")) type type_2
-one_rings arcs tree a b (polygons parts lists type is each joined) (polygon other type_2 is_2 each_2) = other_types (member_of tree (codes "type")) type_2 type
-one_rings arcs tree a b (polygons parts lists type is each joined) (polygons others lists_2 type_2 is_2 each_2 joined_2) =
+one_rings arcs tree a b (polygon part type is each) (polygons others lists type_2 is_2 each_2 flat_2) = other_types (member_of tree (codes "type")) type type_2
+one_rings arcs tree a b (polygons parts lists type is each flat) (polygon other type_2 is_2 each_2) = other_types (member_of tree (codes "type")) type_2 type
+one_rings arcs tree a b (polygons parts lists type is each flat) (polygons others lists_2 type_2 is_2 each_2 flat_2) =
     let same = array_same parts others (one_answer (member_of tree (codes "arcs")) (array parts) (array others) is is_2) in
     let first = subst (λ (trees : List Json). AllZip (SpellsPolygon arcs) trees lists) same each in
-    joined ∙ ap (λ (each : List (List (List Point))). flat_map (λ rings. rings) each) (zip_one (SpellsPolygon arcs) (one_polygon arcs) others lists lists_2 first each_2) ∙ sym joined_2
+    flat ∙ ap (λ (each : List (List (List Point))). flat_map (λ rings. rings) each) (zip_one (SpellsPolygon arcs) (one_polygon arcs) others lists lists_2 first each_2) ∙ sym flat_2
 
 -- ---- areas
 
@@ -135,7 +136,7 @@ same_edges (e ∷ es) [] same = absurd (let never : ends_of e ∷ map ends_of es
 same_edges (e ∷ es) (f ∷ fs) same =
     ap₂ (λ (d : Edge) (ds : List Edge). d ∷ ds) (same_edge e f (ap (λ steps. get_or steps 0 (ends_of e)) same)) (same_edges es fs (ap rest_of same))
 
-one_area : (arcs : List (List Point)) (name : List ℕ) (tree : Json) (a b : Outline) → SpellsArea arcs name tree a → SpellsArea arcs name tree b → a ≡ b
+one_area : (arcs : List (List Point)) (name : List ℕ) (tree : Json) (a b : Area) → SpellsArea arcs name tree a → SpellsArea arcs name tree b → a ≡ b
 one_area arcs name tree a b s t =
     let properties = one_answer (member_of tree (codes "properties")) s.properties t.properties s.properties_are t.properties_are in
     let value = one_answer (member_of t.properties name) s.value t.value (subst (λ (tree : Json). member_of tree name ≡ Some s.value) properties s.value_is) t.value_is in
@@ -175,7 +176,7 @@ kept places = filter (λ place. not (is_passed place)) places
 
 same_layer : (l m : Layer) → l.areas ≡ m.areas → l.passed ≡ m.passed → l.frame ≡ m.frame → l ≡ m
 same_layer l m areas passed frame =
-    ap₂ (λ (areas : List Outline) (passed : ℕ). record { areas = areas; passed = passed; frame = l.frame }) areas passed
+    ap₂ (λ (areas : List Area) (passed : ℕ). record { areas = areas; passed = passed; frame = l.frame }) areas passed
     ∙ ap (λ (frame : Frame). record { areas = m.areas; passed = m.passed; frame = frame }) frame
 
 pub one_layer : OneLayer

@@ -8,12 +8,13 @@ use Rattle.agg_base.specs.Numbers.{SpellsWhole}
 use Rattle.agg_base.proofs.PointCuts.{front_of}
 use Rattle.agg_base.proofs.WholeText.{behind_minus, not_numeral}
 use Rattle.json_text.specs.Tree.{Json, Null, Str, Number, array, object, member_of}
-use Rattle.plane_edge.specs.Rings.{Outline}
+use Rattle.plane_edge.specs.Rings.{Area}
 use Rattle.plane_edge.specs.declared.frame.Frame.{Frame}
 use Rattle.plane_edge.specs.declared.frame.Frame.TheVariants.{Plain, Scaled}
 use Rattle.plane_edge.specs.declared.point.Point.{Point}
 use Rattle.topo_reader.specs.Arcs.{SpellsFrame, SpellPoints, SpellsArc, is_relative}
-use Rattle.topo_reader.specs.Rings.{path_of, SpellsPath, AreJoined, SpellsRing, SpellsPolygon, SpellsRings, polygon, polygons}
+use Rattle.topo_reader.specs.Rings.{path_of, SpellsPath, SpellsRing, SpellsPolygon, SpellsRings, polygon, polygons}
+use Rattle.plane_edge.specs.Paths.{AreJoined}
 use Rattle.topo_reader.specs.Topology.{Layer, SpellsClass, by_text, by_number, is_passed, SpellsArea, ArePlaces, collection, IsPicked, SpellsTopology}
 use Rattle.topo_reader.proofs.OneLayer.{zip_one, one_position, one_told, one_picked, one_places, other_types, kept}
 use Rattle.topo_reader.proofs.Pieces.{geometries, topology, only, whole, nought, one, minus_two, limit, position, at, p, q, r}
@@ -156,7 +157,7 @@ ring_past_arcs arc ring s =
 
 -- the one geometry of the object `t`, where it is not passed over, spells the first area
 spelled_area : (tree place : Json) (class : List ℕ) (l : Layer) → member_of tree (codes "objects") ≡ Some (only (geometries (place ∷ []))) → is_passed place ≡ false
-    → (s : SpellsTopology tree class (Some (codes "t")) l) → (area : Outline) × SpellsArea s.arcs class place area
+    → (s : SpellsTopology tree class (Some (codes "t")) l) → (area : Area) × SpellsArea s.arcs class place area
 spelled_area tree place class l is kept_is s =
     let objects = one_answer (member_of tree (codes "objects")) s.objects (only (geometries (place ∷ []))) s.objects_are is in
     let picked = one_picked (only (geometries (place ∷ []))) (Some (codes "t")) s.picked (geometries (place ∷ [])) (subst (λ (tree : Json). IsPicked tree (Some (codes "t")) s.picked) objects s.picked_is) refl in

@@ -3,6 +3,7 @@ use Rattle.std.specs.Prelude.{◌≡◌, ◌-◌, ◌<◌, ℕ, List, [], ◌∷
 use Rattle.std.specs.List.{AllZip}
 use Rattle.agg_base.specs.Numbers.{SpellsWhole}
 use Rattle.json_text.specs.Tree.{Json, Number, Str, array, member_of}
+use Rattle.plane_edge.specs.Paths.{AreJoined, points_along}
 use Rattle.plane_edge.specs.declared.point.Point.{Point}
 
 -- the path that an index tells: i tells arc i, and -i - 1, which is `negsuc i`, arc i backwards; an index out of range tells none
@@ -18,22 +19,6 @@ pub record SpellsPath (arcs : List (List Point)) (tree : Json) (path : List Poin
   pub whole : SpellsWhole number index
   pub told : path_of arcs index ≡ Some path
 
-abbrev pub first_of : List Point → Option Point
-first_of path = slice_get path 0
-
-abbrev pub last_of : List Point → Option Point
-last_of path = slice_get path (length path - 1)
-
--- the first path begins at the one point, each further one where the one before ends, and the last ends at the other point
-abbrev pub AreJoined : Option Point → List (List Point) → Option Point → Type 0
-AreJoined begin [] end = begin ≡ end
-AreJoined begin (path ∷ paths) end = (first_of path ≡ begin) × AreJoined (last_of path) paths end
-
--- the points of the paths, one path after another; each path but the first drops its first point
-abbrev pub joined : List (List Point) → List Point
-joined [] = []
-joined (path ∷ paths) = path ++ flat_map (drop 1) paths
-
 -- a list of indexes, one or more, of arcs that join and close
 pub record SpellsRing (arcs : List (List Point)) (tree : Json) (ring : List Point) : Type 0 where
   pub indexes : List Json
@@ -43,7 +28,7 @@ pub record SpellsRing (arcs : List (List Point)) (tree : Json) (ring : List Poin
   pub some : 0 < length indexes
   pub told : AllZip (SpellsPath arcs) indexes paths
   pub closed : AreJoined (Some begin) paths (Some begin)
-  pub ring_is : ring ≡ joined paths
+  pub ring_is : ring ≡ points_along paths
 
 -- a list of rings
 pub record SpellsPolygon (arcs : List (List Point)) (tree : Json) (rings : List (List Point)) : Type 0 where

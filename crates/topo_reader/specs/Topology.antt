@@ -3,17 +3,18 @@ use Rattle.std.specs.Prelude.{◌≡◌, ◌≤◌, ℕ, Bool, true, false, not,
 use Rattle.std.specs.Int.{w64}
 use Rattle.std.specs.List.{AllByRecursion, AllZip, filter}
 use Rattle.std.specs.Fmt.{signed_decimal}
+use Rattle.agg_base.specs.declared.limits.TheConstants.{AREAS, STEPS}
 use Rattle.agg_base.specs.Numbers.{SpellsWhole}
 use Rattle.json_text.specs.Tree.{Json, Null, Truth, Number, Str, Array, Object, array, object, member_of}
 use Rattle.plane_edge.specs.declared.frame.Frame.{Frame}
 use Rattle.plane_edge.specs.declared.point.Point.{Point}
-use Rattle.plane_edge.specs.Rings.{Outline, ends_of, steps_of_ring, step_count}
+use Rattle.plane_edge.specs.Rings.{Area, ends_of, steps_of_ring, step_count}
 use Rattle.topo_reader.specs.Arcs.{SpellsFrame, is_relative, SpellsArc}
 use Rattle.topo_reader.specs.Rings.{SpellsRings}
 
 -- a map: its areas in order, how many of its members have no area and are passed over, and its frame
 pub record Layer : Type 0 where
-  pub areas : List Outline
+  pub areas : List Area
   pub passed : ℕ
   pub frame : Frame
 
@@ -37,7 +38,7 @@ abbrev pub is_passed : Json → Bool
 is_passed tree = is_null (Some tree) || is_null (member_of tree (codes "type"))
 
 -- One area: its class text stands among the properties under the name, and its steps are those of all rings of non-zero length.
-pub record SpellsArea (arcs : List (List Point)) (name : List ℕ) (tree : Json) (area : Outline) : Type 0 where
+pub record SpellsArea (arcs : List (List Point)) (name : List ℕ) (tree : Json) (area : Area) : Type 0 where
   pub properties : Json
   pub value : Json
   pub rings : List (List Point)
@@ -77,8 +78,8 @@ pub record SpellsTopology (tree : Json) (class : List ℕ) (named : Option (List
   pub places_are : ArePlaces picked places
   pub areas_are : AllZip (SpellsArea arcs class) (filter (λ place. not (is_passed place)) places) layer.areas
   pub passed_is : layer.passed ≡ count_by is_passed places
-  pub few_areas : length layer.areas ≤ 65536
-  pub few_steps : step_count layer.areas ≤ 2097152
+  pub few_areas : length layer.areas ≤ AREAS
+  pub few_steps : step_count layer.areas ≤ STEPS
 
 -- a value spells one map at most
 abbrev pub OneLayer : Type 0

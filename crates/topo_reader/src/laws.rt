@@ -1,4 +1,4 @@
-//! A law of what is spelled.
+// A law of what is spelled.
 ghost use Rattle.topo_reader.specs.Topology.{OneLayer};
 
 /// A value spells one map at most.

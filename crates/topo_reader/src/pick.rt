@@ -1,4 +1,4 @@
-//! Which object of a topology is read.
+// Which object of a topology is read.
 use agg_base::Text;
 
 /// Which object of a topology is read, and which property of its geometries is the class.

@@ -13,4 +13,4 @@ returns-in_err-parts-clause-light c = λ v s e.
 
 pub unreachable-requires : goal.unreachable-requires
 unreachable-requires c =
-    c.in-None.ensures.none (plan_of c.args.checked.now.areas c.args.table.now _ c.rules.ensures c.rules-2.ensures c.in_ok-parts.ensures.found c.in_ok-parts.ensures.few)
+    c.in-None.ensures.none (plan_of c.args.checked.now.areas c.args.table.now _ c.in_ok-parts.ensures.checked c.in_ok-parts.ensures.rules c.in_ok-parts.ensures.found c.in_ok-parts.ensures.few)

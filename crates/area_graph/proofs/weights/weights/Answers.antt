@@ -5,4 +5,4 @@ use Rattle.area_graph.proofs.weights.weights.Goals as goal
 
 pub weight_of-requires-clause-few : goal.weight_of-requires-clause-few
 weight_of-requires-clause-few c =
-    subst (λ (es : List Edge). length es ≤ 2097152) (sym c.odd.ensures) (few_of c.args.checked.now.areas c.loop-area.area 2097152 (omega arith) c.rules.ensures.few_edges)
+    subst (λ (es : List Edge). length es ≤ 2097152) (sym c.odd.ensures) (few_of c.args.checked.now.areas c.loop-area.area 2097152 (omega arith) c.areas-area-end.ensures.rules.few_edges)

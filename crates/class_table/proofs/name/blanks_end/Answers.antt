@@ -1,6 +1,6 @@
 use Rattle.std.proofs.Common.{not, ◌∙◌}
 use Rattle.text_words.specs.Words.{is_blank}
-use Rattle.class_table.proofs.WordLemmas.{place_or}
+use Rattle.text_words.proofs.FirstByte.{place_or}
 use Rattle.class_table.proofs.name.blanks_end.Goals as goal
 
 pub returns-clause-place : goal.returns-clause-place

@@ -1,6 +1,6 @@
 use Rattle.std.proofs.Common.{◌≡◌, length, arith}
 use Rattle.agg_base.specs.Lines.{rows_from}
-use Rattle.class_table.specs.Gives.{said}
+use Rattle.class_table.specs.Gives.{content_of}
 use Rattle.class_table.proofs.ReaderLemmas.{rows_few, read_content}
 use Rattle.class_table.proofs.reader.read_text.Goals as goal
 
@@ -12,4 +12,4 @@ finish-requires-clause-room c =
     omega arith
 
 pub finish-requires-clause-kept : goal.finish-requires-clause-kept
-finish-requires-clause-kept c = λ t end. read_content c.args.bytes.now (said c.in_ok-draft.draft) c.in_ok-draft.last t c.in_ok-draft.ensures.said c.in_ok-draft.ensures.last end
+finish-requires-clause-kept c = λ t end. read_content c.args.bytes.now (content_of c.in_ok-draft.draft) c.in_ok-draft.last t c.in_ok-draft.ensures.said c.in_ok-draft.ensures.last end

@@ -1,5 +1,6 @@
 use Rattle.std.proofs.Common.{◌≡◌, ◌<◌, ◌≤◌, ◌*◌, ℕ, List, length, ap, sym, ◌∙◌, subst, arith, rules, All}
-use Rattle.grid_reader.specs.Members.{IsAreaOf, lists, list_at}
+use Rattle.grid_reader.specs.Members.{IsAreaOf, list_at}
+use Rattle.agg_base.specs.Lists.{lists_of}
 use Rattle.std.proofs.lemmas.List.{length-map}
 use Rattle.grid_reader.proofs.AreaLemmas.{area_pushed, steps_pushed}
 use Rattle.grid_reader.proofs.MemberLemmas.{list_held}
@@ -24,7 +25,7 @@ loop-cells-preserved c =
     let g = c.args.grid.now in
     let k = c.loop-cells.cells-index in
     let ms = c.args.members.now in
-    let xs = lists ms in
+    let xs = lists_of ms in
     let area = c.in_ok-area_of.field-0 in
     let h : k < length ms = omega arith in
     let within : k < length xs = subst (λ (n : ℕ). k < n) (sym (length-map ms (λ v. v.items))) h in

@@ -1,14 +1,14 @@
-use Rattle.std.proofs.Common.{ℕ, List, length, sym, ap, ◌∙◌, subst}
-use Rattle.std.proofs.lemmas.List.FromFn.{length-range_with_len}
-use Rattle.grid_reader.specs.Forest.{IsForest}
-use Rattle.grid_reader.proofs.ForestLemmas.{alone}
-use Rattle.grid_reader.proofs.LabelLemmas.{labels_alone}
+use Rattle.std.proofs.Common.{◌≡◌, ℕ, [], length, arith, subst}
+use Rattle.grid_reader.specs.Joins.{AreJoins}
+use Rattle.grid_reader.proofs.PatchLemmas.{joins_none, sets_lead}
 use Rattle.grid_reader.proofs.patches.join_all.Goals as goal
 
 pub loop-at-init : goal.loop-at-init
-loop-at-init c =
+loop-at-init c = record { long = c.requires.length; joined = ([], joins_none c.args.grid.now, c.requires.alone) }
+
+pub returns-clause-leaders : goal.returns-clause-leaders
+returns-clause-leaders c =
     let g = c.args.grid.now in
-    let n = length g.cells in record {
-      long = ap length c.requires ∙ length-range_with_len 0 n;
-      joined = (λ v. v, subst (λ (xs : List ℕ). IsForest (λ v. v) xs) (sym c.requires) (alone n), labels_alone g);
-    }
+    let joined = c.loop-at.invariant.joined in
+    let all : c.loop-at.at ≡ length g.cells = omega arith in
+    sets_lead g joined.0 c.loop-at.forest (subst (λ (n : ℕ). AreJoins g n n joined.0) all joined.1) joined.2 c.loop-at.invariant.long

@@ -1,21 +1,18 @@
-use Rattle.std.proofs.Common.{◌≡◌, ◌+◌, ◌++◌, ◌∷◌, ◌<◌, ℕ, List, length, take, drop, ap, ◌∙◌, subst, arith}
-use Rattle.text_words.specs.Words.{gap_words, word}
+use Rattle.std.proofs.Common.{◌≡◌, ◌++◌, ◌∷◌, ℕ, List, ap, sym, ◌∙◌, subst, append_assoc}
+use Rattle.text_words.specs.Words.{gap_words}
 use Rattle.grid_reader.specs.Faults.{IsCellFault}
-use Rattle.grid_reader.proofs.CellLemmas.{split_at}
 use Rattle.grid_reader.proofs.cells.Cells.take_line.Goals as goal
 
 pub returns-in-Err-clause-fault : goal.returns-in-Err-clause-fault
 returns-in-Err-clause-fault c = λ parts more taken.
-    let ws = gap_words c.args.line.now in
-    let at = c.loop-at.at in
-    let w = c.at.result.now in
+    let so_far = c.loop-word.invariant.taken parts taken in
+    let words = gap_words c.args.line.now in
+    let w = c.in-Some.word.now in
+    let left = c.next.new.self in
     let fault = c.in-Err.fault in
-    let same : c.in_ok-parts.parts ≡ ws = c.in_ok-parts.ensures in
-    let is : w ≡ word ws at = c.at.ensures ∙ ap (λ (xs : List (List ℕ)). word xs at) same in
-    let count : c.count-at-end.result ≡ length ws = c.count-at-end.ensures ∙ ap length same in
-    let h : at < length ws = omega arith in
-    let here : IsCellFault c.loop-at.self.columns c.loop-at.self.total ((parts ++ take at ws) ++ w ∷ (drop (at + 1) ws ++ more)) fault
-    = c.in-Err.ensures.fault (parts ++ take at ws) (drop (at + 1) ws ++ more) (c.loop-at.invariant.taken parts taken) in
-    subst (λ (n : ℕ). IsCellFault n c.args.self.now.total (parts ++ ws ++ more) fault) c.loop-at.invariant.columns_kept
-    (subst (λ (n : ℕ). IsCellFault c.loop-at.self.columns n (parts ++ ws ++ more) fault) c.loop-at.invariant.total_kept
-    (subst (λ (xs : List (List ℕ)). IsCellFault c.loop-at.self.columns c.loop-at.self.total xs fault) (split_at parts ws more at w h is) here))
+    let here : IsCellFault c.loop-word.self.columns c.loop-word.self.total (so_far.0 ++ w ∷ (left ++ more)) fault = c.in-Err.ensures.fault so_far.0 (left ++ more) so_far.1 in
+    let all : so_far.0 ++ w ∷ (left ++ more) ≡ parts ++ words ++ more =
+    sym (append_assoc so_far.0 (w ∷ left) more) ∙ (ap (λ (ws : List (List ℕ)). ws ++ more) (ap (λ (ws : List (List ℕ)). so_far.0 ++ ws) (sym c.in-Some.ensures.steps) ∙ so_far.2)) in
+    subst (λ (n : ℕ). IsCellFault n c.args.self.now.total (parts ++ words ++ more) fault) c.loop-word.invariant.columns_kept
+    (subst (λ (n : ℕ). IsCellFault c.loop-word.self.columns n (parts ++ words ++ more) fault) c.loop-word.invariant.total_kept
+    (subst (λ (xs : List (List ℕ)). IsCellFault c.loop-word.self.columns c.loop-word.self.total xs fault) all here))
