@@ -6,15 +6,14 @@ use Rattle.std.proofs.lemmas.List.{append-nil, append_assoc, length-append, get_
 use Rattle.std.proofs.lemmas.List.Edits.{length-remove}
 use Rattle.std.proofs.lemmas.List.Sorted.{sum_by-IsPermutation, IsPermutation-append_comm, length_permutation}
 use Rattle.std.proofs.lemmas.List.Sums.{sum_by-cons, sum_by-remove}
-use Rattle.plane_edge.specs.Rings.{steps_of_ring}
+use Rattle.plane_edge.specs.Rings.{steps_of_ring, IsRing, is_same_step, times, VisitsNoneTwice}
 use Rattle.plane_edge.specs.declared.point.Point.{Point}
 use Rattle.coverage_check.proofs.Counts.{count-cons, count-append, count-permutation}
-use Rattle.region_rings.specs.RegionRings.{IsRing, VisitsNoneTwice, is_same_step, step_count}
 use Rattle.ring_arcs.specs.RingArcs.{steps_of_arc, IsTurnOf, AreIndexesOf}
 use Rattle.ring_arcs.proofs.Counts.{place_of_count, count-some}
 use Rattle.ring_arcs.proofs.Points.{same_steps_equal, same_step_itself}
 use Rattle.ring_arcs.proofs.Steps.{steps-append}
-use Rattle.arc_dissolve.specs.Rings.{told, steps_told, IsDrawnRing}
+use Rattle.arc_dissolve.specs.Rings.{points_round, steps_round, IsDrawnRing}
 
 abbrev Step : Type 0
 Step = Point × Point
@@ -73,46 +72,46 @@ drawn_ring arcs ring indexes r i = record {
   some = i.some;
   in_range = i.in_range;
   closed = (i.walk.begin, i.walk.joined);
-  simple = turn_is_ring ring (told arcs indexes) r i.walk.met;
+  simple = turn_is_ring ring (points_round arcs indexes) r i.walk.met;
   first = i.first;
 }
 
-pub told_counts : (p : Step → Bool) (arcs : List (List Point)) (rings : List (List Point)) (indexes : List (List ℤ)) → AllZip (AreIndexesOf arcs) rings indexes → count_by p (steps_told arcs indexes) ≡ count_by p (flat_map steps_of_ring rings)
+pub told_counts : (p : Step → Bool) (arcs : List (List Point)) (rings : List (List Point)) (indexes : List (List ℤ)) → AllZip (AreIndexesOf arcs) rings indexes → count_by p (steps_round arcs indexes) ≡ count_by p (flat_map steps_of_ring rings)
 told_counts p arcs [] [] z = refl
 told_counts p arcs [] (i ∷ is) z = absurd z
 told_counts p arcs (r ∷ rs) [] z = absurd z
 told_counts p arcs (r ∷ rs) (i ∷ is) z =
-    let here : count_by p (steps_of_ring (told arcs i)) ≡ count_by p (steps_of_ring r) = turn_counts p r (told arcs i) z.0.walk.met in
+    let here : count_by p (steps_of_ring (points_round arcs i)) ≡ count_by p (steps_of_ring r) = turn_counts p r (points_round arcs i) z.0.walk.met in
     let rest = told_counts p arcs rs is z.1 in
-    omega (arith, count-append p (steps_of_ring (told arcs i)) (steps_told arcs is), count-append p (steps_of_ring r) (flat_map steps_of_ring rs), here, rest)
+    omega (arith, count-append p (steps_of_ring (points_round arcs i)) (steps_round arcs is), count-append p (steps_of_ring r) (flat_map steps_of_ring rs), here, rest)
 
 count-flat : {X : Type 0} (p : Step → Bool) (f : X → List Step) (xs : List X) → count_by p (flat_map f xs) ≡ sum_by (λ x. count_by p (f x)) xs
 count-flat p f [] = refl
 count-flat p f (x ∷ xs) = count-append p (f x) (flat_map f xs) ∙ (ap (λ n. count_by p (f x) + n) (count-flat p f xs) ∙ sym (sum_by-cons (λ y. count_by p (f y)) x xs))
 
 -- in whatever order the rings stand
-pub moved_counts : (p : Step → Bool) (arcs : List (List Point)) (rings moved : List (List ℤ)) → IsPermutation rings moved → count_by p (steps_told arcs moved) ≡ count_by p (steps_told arcs rings)
+pub moved_counts : (p : Step → Bool) (arcs : List (List Point)) (rings moved : List (List ℤ)) → IsPermutation rings moved → count_by p (steps_round arcs moved) ≡ count_by p (steps_round arcs rings)
 moved_counts p arcs rings moved m =
-    let f : List ℤ → List Step = λ ring. steps_of_ring (told arcs ring) in
+    let f : List ℤ → List Step = λ ring. steps_of_ring (points_round arcs ring) in
     count-flat p f moved ∙ (sum_by-IsPermutation (λ ring. count_by p (f ring)) rings moved m ∙ sym (count-flat p f rings))
 
 -- ---- lists that have each step equally often are equally long
 
-one_less : (x : Step) (xs ys : List Step) (k : ℕ) (s : Step) → k < length ys → x ≡ get_or ys k x → step_count s (x ∷ xs) ≡ step_count s ys → step_count s xs ≡ step_count s (remove ys k)
+one_less : (x : Step) (xs ys : List Step) (k : ℕ) (s : Step) → k < length ys → x ≡ get_or ys k x → times s (x ∷ xs) ≡ times s ys → times s xs ≡ times s (remove ys k)
 one_less x xs ys k s l same h =
     let once : Step → ℕ = λ t. cond (is_same_step s t) 1 0 in
     let e : once x ≡ once (get_or ys k x) = ap once same in
     let gone : sum_by once (remove ys k) + once (get_or ys k x) ≡ sum_by once ys = sum_by-remove once ys k x l in
-    let all : step_count s (x ∷ xs) ≡ once x + step_count s xs = count-cons (λ t. is_same_step s t) x xs in
+    let all : times s (x ∷ xs) ≡ once x + times s xs = count-cons (λ t. is_same_step s t) x xs in
     omega (arith, e, gone, all, h)
 
-pub equally_long : (xs ys : List Step) → ((s : Step) → step_count s xs ≡ step_count s ys) → length xs ≡ length ys
+pub equally_long : (xs ys : List Step) → ((s : Step) → times s xs ≡ times s ys) → length xs ≡ length ys
 equally_long [] [] h = refl
 equally_long [] (y ∷ ys) h =
-    let there : 1 ≤ step_count y (y ∷ ys) = count-some (λ t. is_same_step y t) (y ∷ ys) 0 y (omega arith) (same_step_itself y) in
+    let there : 1 ≤ times y (y ∷ ys) = count-some (λ t. is_same_step y t) (y ∷ ys) 0 y (omega arith) (same_step_itself y) in
     absurd (omega (arith, there, h y))
 equally_long (x ∷ xs) ys h =
-    let there : 1 ≤ step_count x (x ∷ xs) = count-some (λ t. is_same_step x t) (x ∷ xs) 0 x (omega arith) (same_step_itself x) in
+    let there : 1 ≤ times x (x ∷ xs) = count-some (λ t. is_same_step x t) (x ∷ xs) 0 x (omega arith) (same_step_itself x) in
     let place = place_of_count (λ t. is_same_step x t) ys (omega (arith, there, h x)) in
     let same : x ≡ get_or ys place.0 x = same_steps_equal x (get_or ys place.0 x) (place.1.1 x) in
     let rest : length xs ≡ length (remove ys place.0) = equally_long xs (remove ys place.0) (λ s. one_less x xs ys place.0 s place.1.0 same (h s)) in

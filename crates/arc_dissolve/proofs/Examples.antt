@@ -8,7 +8,7 @@ use Rattle.plane_edge.specs.declared.edge.Edge.{Edge}
 use Rattle.plane_edge.specs.declared.point.Point.{Point}
 use Rattle.plane_edge.specs.Middle.{middle_of}
 use Rattle.arc_dissolve.specs.Holes.{first_ring, is_shell, IsMiddleOf, IsCandidate, IsPolygon}
-use Rattle.arc_dissolve.specs.Rings.{told}
+use Rattle.arc_dissolve.specs.Rings.{points_round}
 
 small : (n : ℕ) → n < 4 → IsCoordinate (pos n)
 small n few = record { least = omega (arith, ints); most = omega (arith, ints) }
@@ -62,7 +62,7 @@ least = record { low = p11; high = p21; rising = refl }
 abbrev hole_edges : List Edge
 hole_edges = record { low = p11; high = p12; rising = refl } ∷ record { low = p12; high = p22; rising = refl } ∷ record { low = p21; high = p22; rising = refl } ∷ least ∷ []
 
-hole_middle : IsMiddleOf (told arcs hole) (middle_of least)
+hole_middle : IsMiddleOf (points_round arcs hole) (middle_of least)
 hole_middle = record {
   edges = hole_edges;
   steps = refl;
@@ -81,13 +81,13 @@ block_is_candidate = record {
   around = record { edges = block_edges; steps = refl; spot = middle_of least; middle = hole_middle; inside = refl };
 }
 
-block_is_shell : is_shell (told arcs block) ≡ true
+block_is_shell : is_shell (points_round arcs block) ≡ true
 block_is_shell = refl
 
-hole_is_no_shell : is_shell (told arcs hole) ≡ false
+hole_is_no_shell : is_shell (points_round arcs hole) ≡ false
 hole_is_no_shell = refl
 
 hole_is_no_polygon : ¬ IsPolygon arcs rings (hole ∷ [])
 hole_is_no_polygon p =
     let front : hole ≡ p.front = ap first_ring p.is in
-    p.alone (subst (λ r. is_shell (told arcs r) ≡ false) front hole_is_no_shell) block (subst (λ r. IsCandidate arcs rings r block) front block_is_candidate)
+    p.alone (subst (λ r. is_shell (points_round arcs r) ≡ false) front hole_is_no_shell) block (subst (λ r. IsCandidate arcs rings r block) front block_is_candidate)

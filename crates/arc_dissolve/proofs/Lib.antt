@@ -1,14 +1,21 @@
+-- lists
 pub mod ListLemmas
-pub mod EdgeLemmas
-pub mod ToldLemmas
-pub mod ShellLemmas
-pub mod OrderLemmas
-pub mod SlotLemmas
-pub mod OneLemmas
-pub mod HoleLemmas
-pub mod PolygonLemmas
-pub mod CountLemmas
-pub mod BorderLemmas
 pub mod PartLemmas
+pub mod OrderLemmas
+-- rings, their edges and their steps
+pub mod EdgeLemmas
+pub mod OneLemmas
+pub mod RoundLemmas
+pub mod CountLemmas
+-- shells, and the holes in them
+pub mod ExtentLemmas
+pub mod ShellLemmas
+pub mod ReachLemmas
+pub mod HoleLemmas
+-- polygons
+pub mod SlotLemmas
+pub mod PolygonLemmas
+-- the map
+pub mod BorderLemmas
 pub mod DrawLemmas
 mod Examples

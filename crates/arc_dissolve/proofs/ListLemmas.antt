@@ -4,7 +4,7 @@ use Rattle.std.specs.List.{AllZip}
 use Rattle.std.specs.declared.alloc.Global.{Global}
 use Rattle.std.proofs.lemmas.List.{map_more, map_push, map-set, get_or-map, length-map}
 use Rattle.std.proofs.lemmas.List.Elements.{All-map}
-use Rattle.arc_dissolve.specs.Shapes.{lists_of, nested_of}
+use Rattle.agg_base.specs.Lists.{lists_of, nested_of}
 
 -- what holds of all lists that vectors hold holds of the one that a loop takes up
 pub one_of : {X : Type 0} (P : List X → Type 0) (vs : List (Vec X Global)) (i : ℕ) (v : Vec X Global) (xs : List X) → All (λ w. P w.items) vs → i < length vs → v ≡ get_or vs i v → xs ≡ v.items → P xs

@@ -5,9 +5,10 @@ use Rattle.std.specs.declared.alloc.Global.{Global}
 use Rattle.std.proofs.lemmas.List.{drop-drop, take-map, drop-map, get_or_append_left, get_or_push, length_push, length-drop}
 use Rattle.std.proofs.lemmas.List.Sums.{sum_by-cons, sum_by_more, sum_by_more_le}
 use Rattle.plane_edge.specs.declared.point.Point.{Point}
-use Rattle.arc_dissolve.specs.Drawing.{joined}
-use Rattle.arc_dissolve.specs.Parts.{parts, IsFigureOf, AreFigures}
-use Rattle.arc_dissolve.specs.Shapes.{Figure, lists_of}
+use Rattle.arc_dissolve.specs.Drawing.{one_list}
+use Rattle.arc_dissolve.specs.Parts.{parts, IsShapeOfRings, AreShapesOfParts}
+use Rattle.arc_dissolve.specs.Shapes.{Shape}
+use Rattle.agg_base.specs.Lists.{lists_of}
 use Rattle.arc_dissolve.proofs.ShellLemmas.{below_next}
 
 -- the part of that number
@@ -35,16 +36,16 @@ part_within counts rings left r h s l =
     let long : length left ≡ length rings - sum (take r counts) = ap length l ∙ length-drop (sum (take r counts)) rings in
     omega (arith, more, long, s)
 
-pub figure_more : (arcs : List (List Point)) (groups : List (List (List ℤ))) (classes : List ℕ) (names : List (List ℕ)) (n : ℕ) (rings : List (List ℤ)) (name : List ℕ) (figure : Figure) (old new : List Figure) → AreFigures arcs groups classes names n old → rings ≡ get_or groups n [] → name ≡ get_or names (slice_index classes n) [] → IsFigureOf arcs rings name figure → new ≡ old ++ figure ∷ [] → AreFigures arcs groups classes names (n + 1) new
-figure_more arcs groups classes names n rings name figure old new are r m is w =
-    subst (λ l. AreFigures arcs groups classes names (n + 1) l) (sym w) (record {
-      count = length_push old figure ∙ ap (λ k. k + 1) are.count;
+pub shape_more : (arcs : List (List Point)) (groups : List (List (List ℤ))) (classes : List ℕ) (names : List (List ℕ)) (n : ℕ) (rings : List (List ℤ)) (name : List ℕ) (shape : Shape) (old new : List Shape) → AreShapesOfParts arcs groups classes names n old → rings ≡ get_or groups n [] → name ≡ get_or names (slice_index classes n) [] → IsShapeOfRings arcs rings name shape → new ≡ old ++ shape ∷ [] → AreShapesOfParts arcs groups classes names (n + 1) new
+shape_more arcs groups classes names n rings name shape old new are r m is w =
+    subst (λ l. AreShapesOfParts arcs groups classes names (n + 1) l) (sym w) (record {
+      count = length_push old shape ∙ ap (λ k. k + 1) are.count;
       each = λ k f h. elim (below_next k n h) [
-        | inl l ↦ subst (λ z. IsFigureOf arcs (get_or groups k []) (get_or names (slice_index classes k) []) z) (sym (get_or_append_left old (figure ∷ []) f k (omega (arith, are.count)))) (are.each k f l)
+        | inl l ↦ subst (λ z. IsShapeOfRings arcs (get_or groups k []) (get_or names (slice_index classes k) []) z) (sym (get_or_append_left old (shape ∷ []) f k (omega (arith, are.count)))) (are.each k f l)
         | inr e ↦
-            let here = subst (λ l. IsFigureOf arcs l (get_or names (slice_index classes n) []) figure) r (subst (λ l. IsFigureOf arcs rings l figure) m is) in
-            let at = subst (λ z. IsFigureOf arcs (get_or groups n []) (get_or names (slice_index classes n) []) z) (sym (get_or_push old figure f n are.count)) here in
-            subst (λ j. IsFigureOf arcs (get_or groups j []) (get_or names (slice_index classes j) []) (get_or (old ++ figure ∷ []) j f)) (sym e) at
+            let here = subst (λ l. IsShapeOfRings arcs l (get_or names (slice_index classes n) []) shape) r (subst (λ l. IsShapeOfRings arcs rings l shape) m is) in
+            let at = subst (λ z. IsShapeOfRings arcs (get_or groups n []) (get_or names (slice_index classes n) []) z) (sym (get_or_push old shape f n are.count)) here in
+            subst (λ j. IsShapeOfRings arcs (get_or groups j []) (get_or names (slice_index classes j) []) (get_or (old ++ shape ∷ []) j f)) (sym e) at
       ];
     })
 
@@ -56,8 +57,8 @@ zip_parted R (x ∷ xs) ys (b ∷ zs) z =
     let rest = zip_parted R xs ys zs z.1 in
     ((z.0, rest.0), rest.1)
 
-pub zip_parts : {A B : Type 0} (R : A → B → Type 0) (groups : List (List A)) (zs : List B) → AllZip R (joined groups) zs → AllZip (λ g part. AllZip R g part) groups (parts (map (λ g. length g) groups) zs)
+pub zip_parts : {A B : Type 0} (R : A → B → Type 0) (groups : List (List A)) (zs : List B) → AllZip R (one_list groups) zs → AllZip (λ g part. AllZip R g part) groups (parts (map (λ g. length g) groups) zs)
 zip_parts R [] zs z = tt
 zip_parts R (g ∷ gs) zs z =
-    let two = zip_parted R g (joined gs) zs z in
+    let two = zip_parted R g (one_list gs) zs z in
     (two.0, zip_parts R gs (drop (length g) zs) two.1)

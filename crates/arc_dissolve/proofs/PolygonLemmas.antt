@@ -5,14 +5,13 @@ use Rattle.std.specs.declared.alloc.Global.{Global}
 use Rattle.std.proofs.lemmas.List.{length-append}
 use Rattle.std.proofs.lemmas.List.Elements.{All-map, All-weaker}
 use Rattle.std.proofs.lemmas.List.Sorted.{All-permutation}
-use Rattle.plane_edge.specs.Rings.{steps_of_ring, step_between, path_from}
+use Rattle.plane_edge.specs.Rings.{steps_of_ring, step_between, path_from, IsRing}
 use Rattle.plane_edge.specs.declared.point.Point.{Point}
-use Rattle.region_rings.specs.RegionRings.{IsRing}
 use Rattle.ring_arcs.specs.RingArcs.{IsIndex}
 use Rattle.ring_arcs.proofs.Points.{step_between-apart}
 use Rattle.arc_dissolve.specs.declared.shell.Shell.{Shell}
-use Rattle.arc_dissolve.specs.Rings.{IsDrawnRing, told}
-use Rattle.arc_dissolve.specs.Shapes.{lists_of}
+use Rattle.arc_dissolve.specs.Rings.{IsDrawnRing, points_round}
+use Rattle.agg_base.specs.Lists.{lists_of}
 use Rattle.arc_dissolve.specs.Shells.{AreShells, AreHeadsOf}
 use Rattle.arc_dissolve.proofs.HoleLemmas.{IsLaidOut}
 use Rattle.arc_dissolve.proofs.ListLemmas.{all_held, all_listed, lists_length}
@@ -34,16 +33,16 @@ some_step (p ∷ q ∷ ps) r =
     let more : length (step_between p q ++ rest) ≡ 1 + length rest = length-append (step_between p q) rest ∙ ap (λ l. length l + length rest) (step_between-apart p q apart) in
     omega (arith, more)
 
-pub steps_there : (arcs : List (List Point)) (rings : List (Vec ℤ Global)) (outlines : List (Vec Point Global)) → All (IsDrawnRing arcs) (lists_of rings) → lists_of outlines ≡ map (told arcs) (lists_of rings) → All (λ v. 0 < length (steps_of_ring v.items)) outlines
+pub steps_there : (arcs : List (List Point)) (rings : List (Vec ℤ Global)) (outlines : List (Vec Point Global)) → All (IsDrawnRing arcs) (lists_of rings) → lists_of outlines ≡ map (points_round arcs) (lists_of rings) → All (λ v. 0 < length (steps_of_ring v.items)) outlines
 steps_there arcs rings outlines all o =
     let P : List Point → Type 0 = λ ring. 0 < length (steps_of_ring ring) in
-    let told_all : All P (map (told arcs) (lists_of rings)) = All-map P (told arcs) (lists_of rings) (All-weaker (IsDrawnRing arcs) (λ ring. P (told arcs ring)) (λ ring d. some_step (told arcs ring) d.simple) (lists_of rings) all) in
+    let told_all : All P (map (points_round arcs) (lists_of rings)) = All-map P (points_round arcs) (lists_of rings) (All-weaker (IsDrawnRing arcs) (λ ring. P (points_round arcs ring)) (λ ring d. some_step (points_round arcs ring) d.simple) (lists_of rings) all) in
     all_held P outlines (subst (λ l. All P l) (sym o) told_all)
 
-pub laid_out : (arcs : List (List Point)) (rings : List (Vec ℤ Global)) (outlines : List (Vec Point Global)) (shells : List Shell) (heads : List ℕ) → lists_of outlines ≡ map (told arcs) (lists_of rings) → AreShells (lists_of rings) (lists_of outlines) (length outlines) shells → AreHeadsOf shells (lists_of outlines) heads → IsLaidOut arcs (lists_of rings) shells heads
+pub laid_out : (arcs : List (List Point)) (rings : List (Vec ℤ Global)) (outlines : List (Vec Point Global)) (shells : List Shell) (heads : List ℕ) → lists_of outlines ≡ map (points_round arcs) (lists_of rings) → AreShells (lists_of rings) (lists_of outlines) (length outlines) shells → AreHeadsOf shells (lists_of outlines) heads → IsLaidOut arcs (lists_of rings) shells heads
 laid_out arcs rings outlines shells heads o s h =
-    let n : length outlines ≡ length (map (told arcs) (lists_of rings)) = sym (lists_length outlines) ∙ ap length o in
+    let n : length outlines ≡ length (map (points_round arcs) (lists_of rings)) = sym (lists_length outlines) ∙ ap length o in
     record {
-      shells_are = subst (λ k. AreShells (lists_of rings) (map (told arcs) (lists_of rings)) k shells) n (subst (λ l. AreShells (lists_of rings) l (length outlines) shells) o s);
+      shells_are = subst (λ k. AreShells (lists_of rings) (map (points_round arcs) (lists_of rings)) k shells) n (subst (λ l. AreShells (lists_of rings) l (length outlines) shells) o s);
       heads_are = subst (λ l. AreHeadsOf shells l heads) o h;
     }

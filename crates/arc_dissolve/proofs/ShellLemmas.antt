@@ -5,10 +5,12 @@ use Rattle.std.proofs.lemmas.Bool.{false≢true}
 use Rattle.std.proofs.lemmas.List.{get_or-map, get_or_push, get_or_append_left, length_push}
 use Rattle.std.proofs.lemmas.List.Elements.{All-push}
 use Rattle.std.proofs.lemmas.List.Quantifiers.{Any-push}
+use Rattle.std.specs.List.Sorted.{IsPermutation}
+use Rattle.std.proofs.lemmas.List.Sorted.{All-permutation, Contains-permutation}
 use Rattle.plane_edge.specs.declared.point.Point.{Point}
 use Rattle.arc_dissolve.specs.declared.shell.Shell.{Shell}
 use Rattle.arc_dissolve.specs.Holes.{is_shell}
-use Rattle.arc_dissolve.specs.Shapes.{lists_of}
+use Rattle.agg_base.specs.Lists.{lists_of}
 use Rattle.arc_dissolve.specs.Shells.{AreShells, IsShellOf, IsShellAmong, IsHead, AreHeadsOf}
 
 -- the list that a vector holds stands at its place
@@ -35,6 +37,18 @@ shell_passed rings outlines place old new are f n =
       each = are.each;
       complete = λ k h t. elim (below_next k place h) [ inl l ↦ are.complete k l t | inr e ↦ absurd (false≢true (sym f ∙ (ap (λ j. is_shell (get_or outlines j [])) (sym e) ∙ t))) ];
     })
+
+-- in whatever order the shells stand
+any_in_order : (P : Shell → Type 0) (xs ys : List Shell) → IsPermutation xs ys → Any P xs → Any P ys
+any_in_order P xs ys p a =
+    let c = Contains-permutation xs ys a.1 p (a.0, a.2, a.3) in
+    (c.0, a.1, c.1, c.2, a.4)
+
+pub shells_moved : (rings : List (List ℤ)) (outlines : List (List Point)) (n : ℕ) (old new : List Shell) → IsPermutation old new → AreShells rings outlines n old → AreShells rings outlines n new
+shells_moved rings outlines n old new p are = record {
+  each = All-permutation (IsShellAmong rings outlines) old new p are.each;
+  complete = λ k h t. any_in_order (λ s. s.place ≡ k) old new p (are.complete k h t);
+}
 
 -- the ring at that place is a shell
 pub among : (rings : List (List ℤ)) (outlines : List (List Point)) (place : ℕ) (ring : List ℤ) (outline : List Point) (s : Shell) → place < length outlines → ring ≡ get_or rings place [] → outline ≡ get_or outlines place [] → is_shell (get_or outlines place []) ≡ true → s.place ≡ place → IsShellOf ring outline s → IsShellAmong rings outlines s

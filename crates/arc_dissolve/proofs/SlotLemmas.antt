@@ -6,7 +6,7 @@ use Rattle.std.proofs.lemmas.Bool.Decides.{eqb_tells}
 use Rattle.std.proofs.lemmas.List.{append-nil, append_assoc, map-append, get_or_append_left, get_or_push, get_or_default, get_or-set_same, get_or-set_other, length_push, length-set, take_all, flat_map_more}
 use Rattle.std.proofs.lemmas.List.Elements.{All-nil, All-push, All-filter, filter_more, filter_passes}
 use Rattle.std.proofs.lemmas.List.Sorted.{IsPermutation-refl, IsPermutation-trans, IsPermutation-map, IsPermutation-append_left, IsPermutation-append_right, IsPermutation-append_comm, IsPermutation-filter_both}
-use Rattle.arc_dissolve.specs.Slots.{AreHeads, IsBehind, IsGroup, ArePlaced, rings_behind, AreGroups, marked, fronts, others, is_filled, IsSlot, AreFronts, AreSlots}
+use Rattle.arc_dissolve.specs.Slots.{AreHeads, IsBehind, IsGroup, ArePlaced, rings_behind, AreGroups, marks_from, fronts, others, is_filled, IsSlot, AreFronts, AreSlots}
 use Rattle.arc_dissolve.proofs.OrderLemmas.{placed_none, placed_still, placed_more, fronts_from}
 use Rattle.arc_dissolve.proofs.ShellLemmas.{below_next}
 
@@ -18,7 +18,7 @@ Marks = List (List ℤ × Bool)
 
 -- ---- marks
 
-marked_at : (n : ℕ) (rings : Rings) (heads : List ℕ) (i : ℕ) (d : List ℤ × Bool) → length heads ≡ length rings → i < length rings → get_or (marked n rings heads) i d ≡ (get_or rings i [], eqb (slice_index heads i) (n + i))
+marked_at : (n : ℕ) (rings : Rings) (heads : List ℕ) (i : ℕ) (d : List ℤ × Bool) → length heads ≡ length rings → i < length rings → get_or (marks_from n rings heads) i d ≡ (get_or rings i [], eqb (slice_index heads i) (n + i))
 marked_at n [] heads i d e h = absurd (omega arith)
 marked_at n (r ∷ rs) [] i d e h = absurd (omega arith)
 marked_at n (r ∷ rs) (x ∷ xs) zero d e h = let s : n ≡ n + 0 = omega arith in ap (λ k. (r, eqb x k)) s
@@ -26,12 +26,12 @@ marked_at n (r ∷ rs) (x ∷ xs) (suc i) d e h =
     let s : n + 1 + i ≡ n + suc i = omega arith in
     marked_at (n + 1) rs xs i d (omega arith) (omega arith) ∙ ap (λ k. (get_or rs i [], eqb (slice_index xs i) k)) s
 
-length-marked : (n : ℕ) (rings : Rings) (heads : List ℕ) → length heads ≡ length rings → length (marked n rings heads) ≡ length rings
-length-marked n [] heads e = refl
-length-marked n (r ∷ rs) [] e = absurd (omega arith)
-length-marked n (r ∷ rs) (x ∷ xs) e = ap (λ k. suc k) (length-marked (n + 1) rs xs (omega arith))
+length-marks_from : (n : ℕ) (rings : Rings) (heads : List ℕ) → length heads ≡ length rings → length (marks_from n rings heads) ≡ length rings
+length-marks_from n [] heads e = refl
+length-marks_from n (r ∷ rs) [] e = absurd (omega arith)
+length-marks_from n (r ∷ rs) (x ∷ xs) e = ap (λ k. suc k) (length-marks_from (n + 1) rs xs (omega arith))
 
-rings_marked : (n : ℕ) (rings : Rings) (heads : List ℕ) → length heads ≡ length rings → map (λ m. m.0) (marked n rings heads) ≡ rings
+rings_marked : (n : ℕ) (rings : Rings) (heads : List ℕ) → length heads ≡ length rings → map (λ m. m.0) (marks_from n rings heads) ≡ rings
 rings_marked n [] heads e = refl
 rings_marked n (r ∷ rs) [] e = absurd (omega arith)
 rings_marked n (r ∷ rs) (x ∷ xs) e = ap (λ l. r ∷ l) (rings_marked (n + 1) rs xs (omega arith))
@@ -48,12 +48,12 @@ kept_by false p marks i d h e =
 
 -- what one more ring adds
 added : (b : Bool) (p : List ℤ × Bool → Bool) (rings : Rings) (heads : List ℕ) (i : ℕ) → length heads ≡ length rings → i < length rings → p (get_or rings i [], eqb (slice_index heads i) i) ≡ b →
-    kept p (take (i + 1) (marked 0 rings heads)) ≡ kept p (take i (marked 0 rings heads)) ++ cond b (get_or rings i [] ∷ []) []
+    kept p (take (i + 1) (marks_from 0 rings heads)) ≡ kept p (take i (marks_from 0 rings heads)) ++ cond b (get_or rings i [] ∷ []) []
 added b p rings heads i e h t =
     let d : List ℤ × Bool = ([], false) in
     let z : 0 + i ≡ i = omega arith in
-    let at : get_or (marked 0 rings heads) i d ≡ (get_or rings i [], eqb (slice_index heads i) i) = marked_at 0 rings heads i d e h ∙ ap (λ k. (get_or rings i [], eqb (slice_index heads i) k)) z in
-    kept_by b p (marked 0 rings heads) i d (omega (arith, length-marked 0 rings heads e)) (ap p at ∙ t) ∙ ap (λ m. kept p (take i (marked 0 rings heads)) ++ cond b (m.0 ∷ []) []) at
+    let at : get_or (marks_from 0 rings heads) i d ≡ (get_or rings i [], eqb (slice_index heads i) i) = marked_at 0 rings heads i d e h ∙ ap (λ k. (get_or rings i [], eqb (slice_index heads i) k)) z in
+    kept_by b p (marks_from 0 rings heads) i d (omega (arith, length-marks_from 0 rings heads e)) (ap p at ∙ t) ∙ ap (λ m. kept p (take i (marks_from 0 rings heads)) ++ cond b (m.0 ∷ []) []) at
 
 -- ---- slots
 
@@ -76,7 +76,7 @@ fronts_by b rings heads n slot old new e h t s w are =
     let flat : flat_map (λ l. l) (old ++ slot ∷ []) ≡ flat_map (λ l. l) old ++ slot = sym (flat_map_more (λ l. l) [] old slot) in
     subst (λ l. AreFronts rings heads (n + 1) l) (sym w) (record {
       count = length_push old slot ∙ ap (λ k. k + 1) are.count;
-      are = flat ∙ (ap (λ l. l ++ slot) are.are ∙ (ap (λ l. fronts (take n (marked 0 rings heads)) ++ l) s ∙ sym (added b (λ m. m.1) rings heads n e h t)));
+      are = flat ∙ (ap (λ l. l ++ slot) are.are ∙ (ap (λ l. fronts (take n (marks_from 0 rings heads)) ++ l) s ∙ sym (added b (λ m. m.1) rings heads n e h t)));
       each = λ k l. elim (below_next k n l) [
         | inl m ↦ subst (λ z. IsSlot rings heads k z) (sym (get_or_append_left old (slot ∷ []) [] k (omega (arith, are.count)))) (are.each k m)
         | inr q ↦ subst (λ j. IsSlot rings heads j (get_or (old ++ slot ∷ []) j [])) (sym q) (subst (λ z. IsSlot rings heads n z) (sym (get_or_push old slot [] n are.count)) (slot_by b rings heads n slot h t s))
@@ -92,8 +92,8 @@ fronts_more rings heads n slot old new e h s w are = fronts_by (eqb (slice_index
 
 pub slots_begun : (rings : Rings) (heads : List ℕ) (slots : List Rings) → length heads ≡ length rings → AreFronts rings heads (length rings) slots → AreSlots rings heads 0 slots
 slots_begun rings heads slots e are =
-    let marks = marked 0 rings heads in
-    let all : fronts (take (length rings) marks) ≡ fronts marks = ap fronts (take_all (length rings) marks (omega (arith, length-marked 0 rings heads e))) in
+    let marks = marks_from 0 rings heads in
+    let all : fronts (take (length rings) marks) ≡ fronts marks = ap fronts (take_all (length rings) marks (omega (arith, length-marks_from 0 rings heads e))) in
     let same : flat_map (λ l. l) slots ≡ fronts marks ++ [] = are.are ∙ (all ∙ sym (append-nil (fronts marks))) in
     record { count = are.count; same = subst (λ l. IsPermutation (fronts marks ++ []) l) (sym same) (IsPermutation-refl (fronts marks ++ [])); each = are.each; placed = λ k l. placed_none rings 0 (rings_behind (get_or slots k [])) (are.bare k l) }
 
@@ -130,7 +130,7 @@ placed_behind rings heads n h slot ring g r p =
 pub slots_put : (rings : Rings) (heads : List ℕ) (n : ℕ) (ring : List ℤ) (old new : List Rings) → AreHeads (length rings) heads → n < length rings → ring ≡ get_or rings n [] → slice_index heads n ≢ n → new ≡ set old (slice_index heads n) (get_or old (slice_index heads n) [] ++ ring ∷ []) → AreSlots rings heads n old → AreSlots rings heads (n + 1) new
 slots_put rings heads n ring old new hs l r apart w are =
     let h = slice_index heads n in
-    let marks = marked 0 rings heads in
+    let marks = marks_from 0 rings heads in
     let within : h < length old = omega (arith, hs.within n l, are.count) in
     let f : eqb (slice_index heads n) n ≡ false = elim (eqb_tells (slice_index heads n) n) [ inl t ↦ absurd (apart t.1) | inr t ↦ t.0 ] in
     let grown : others (take (n + 1) marks) ≡ others (take n marks) ++ ring ∷ [] = added true (λ m. not m.1) rings heads n hs.count l (ap not f) ∙ ap (λ x. others (take n marks) ++ x ∷ []) (sym r) in
@@ -153,7 +153,7 @@ slots_put rings heads n ring old new hs l r apart w are =
 
 pub slots_same : (rings : Rings) (heads : List ℕ) (n : ℕ) (old new : List Rings) → length heads ≡ length rings → n < length rings → slice_index heads n ≡ n → new ≡ old → AreSlots rings heads n old → AreSlots rings heads (n + 1) new
 slots_same rings heads n old new e l own w are =
-    let marks = marked 0 rings heads in
+    let marks = marks_from 0 rings heads in
     let f : eqb (slice_index heads n) n ≡ true = eq-eqb (slice_index heads n) n own in
     let grown : others (take (n + 1) marks) ≡ others (take n marks) = added false (λ m. not m.1) rings heads n e l (ap not f) ∙ append-nil (others (take n marks)) in
     subst (λ x. AreSlots rings heads (n + 1) x) (sym w) (record {
@@ -185,8 +185,8 @@ slot_at rings heads k slot s = let same : k ≡ 0 + k = omega arith in subst (λ
 
 pub groups_are : (rings : Rings) (heads : List ℕ) (slots groups : List Rings) → length heads ≡ length rings → AreSlots rings heads (length rings) slots → groups ≡ filter is_filled slots → AreGroups rings heads groups
 groups_are rings heads slots groups e are w =
-    let marks = marked 0 rings heads in
-    let all : take (length rings) marks ≡ marks = take_all (length rings) marks (omega (arith, length-marked 0 rings heads e)) in
+    let marks = marks_from 0 rings heads in
+    let all : take (length rings) marks ≡ marks = take_all (length rings) marks (omega (arith, length-marks_from 0 rings heads e)) in
     let both : IsPermutation (map (λ m. m.0) marks) (map (λ m. m.0) (filter (λ m. m.1) marks ++ filter (λ m. not m.1) marks)) = IsPermutation-map (λ m. m.0) marks (filter (λ m. m.1) marks ++ filter (λ m. not m.1) marks) (IsPermutation-filter_both (λ m. m.1) (λ m. not m.1) (λ m. refl) marks) in
     let parted : IsPermutation rings (fronts marks ++ others marks) = subst (λ l. IsPermutation l (fronts marks ++ others marks)) (rings_marked 0 rings heads e) (subst (λ l. IsPermutation (map (λ m. m.0) marks) l) (map-append (λ m. m.0) (filter (λ m. m.1) marks) (filter (λ m. not m.1) marks)) both) in
     let same : IsPermutation (fronts marks ++ others marks) (flat_map (λ l. l) slots) = subst (λ l. IsPermutation (fronts marks ++ others l) (flat_map (λ x. x) slots)) all are.same in

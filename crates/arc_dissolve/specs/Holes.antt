@@ -9,7 +9,7 @@ use Rattle.plane_edge.specs.declared.point.Point.{Point}
 use Rattle.plane_edge.specs.declared.spot.Spot.{Spot}
 use Rattle.plane_edge.specs.Middle.{middle_of}
 use Rattle.ring_arcs.specs.Numbers.{number_of}
-use Rattle.arc_dissolve.specs.Rings.{told, round_sum}
+use Rattle.arc_dissolve.specs.Rings.{points_round, round_sum}
 
 -- the number of the first arc of the ring
 abbrev pub first_arc : List ℤ → ℕ
@@ -57,17 +57,17 @@ pub record IsAround (shell hole : List Point) : Type 0 where
 -- one of the rings, a shell and around the hole
 pub record IsCandidate (arcs : List (List Point)) (rings : List (List ℤ)) (hole shell : List ℤ) : Type 0 where
   pub among : Contains rings shell
-  pub is : is_shell (told arcs shell) ≡ true
-  pub around : IsAround (told arcs shell) (told arcs hole)
+  pub is : is_shell (points_round arcs shell) ≡ true
+  pub around : IsAround (points_round arcs shell) (points_round arcs hole)
 
 -- the first ring has the lesser sum, or the same sum and no greater first arc
 abbrev pub IsNotAfter : List (List Point) → List ℤ → List ℤ → Type 0
 IsNotAfter arcs r s =
-    (round_sum (told arcs r) <ℤ round_sum (told arcs s)) ⊎ ((round_sum (told arcs r) ≡ round_sum (told arcs s)) × (first_arc r ≤ first_arc s))
+    (round_sum (points_round arcs r) <ℤ round_sum (points_round arcs s)) ⊎ ((round_sum (points_round arcs r) ≡ round_sum (points_round arcs s)) × (first_arc r ≤ first_arc s))
 
 -- the ring is a hole, and the shell is the least candidate for it
 pub record IsOwner (arcs : List (List Point)) (rings : List (List ℤ)) (shell hole : List ℤ) : Type 0 where
-  pub is_hole : is_shell (told arcs hole) ≡ false
+  pub is_hole : is_shell (points_round arcs hole) ≡ false
   pub candidate : IsCandidate arcs rings hole shell
   pub least : (other : List ℤ) → IsCandidate arcs rings hole other → IsNotAfter arcs shell other
 
@@ -81,7 +81,7 @@ pub record IsPolygon (arcs : List (List Point)) (rings polygon : List (List ℤ)
   pub holes : List (List ℤ)
   pub is : polygon ≡ front ∷ holes
   pub owned : All (IsOwner arcs rings front) holes
-  pub alone : is_shell (told arcs front) ≡ false → IsUnowned arcs rings front
+  pub alone : is_shell (points_round arcs front) ≡ false → IsUnowned arcs rings front
   pub in_order : IsNonDecreasingBy first_arc holes
 
 -- the polygons are in the order of the first arcs of their first rings

@@ -2,6 +2,8 @@ pub mod Shapes
 pub mod Rings
 pub mod Holes
 pub mod Drawing
+pub mod Extents
 pub mod Shells
+pub mod Reaches
 pub mod Parts
 pub mod Slots

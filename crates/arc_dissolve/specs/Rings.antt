@@ -1,14 +1,14 @@
 -- Rings that are told by indexes of arcs.
 use Rattle.std.specs.Prelude.{◌<◌, ℤ, pos, ◌+ℤ◌, ◌-ℤ◌, ◌*ℤ◌, Some, List, [], ◌∷◌, ◌++◌, length, map, flat_map, All}
-use Rattle.plane_edge.specs.Rings.{steps_of_ring}
+use Rattle.plane_edge.specs.Rings.{steps_of_ring, IsRing}
 use Rattle.plane_edge.specs.declared.point.Point.{Point}
-use Rattle.region_rings.specs.RegionRings.{IsRing}
 use Rattle.ring_arcs.specs.Numbers.{IsLeastAt}
-use Rattle.ring_arcs.specs.RingArcs.{arc_at, without_last, AreJoined, IsIndex}
+use Rattle.ring_arcs.specs.RingArcs.{arc_at, without_last, IsIndex}
+use Rattle.plane_edge.specs.Paths.{AreJoined}
 
 -- the points of the ring: arc after arc, each without its last point
-abbrev pub told : List (List Point) → List ℤ → List Point
-told arcs ring = flat_map without_last (map (arc_at arcs) ring)
+abbrev pub points_round : List (List Point) → List ℤ → List Point
+points_round arcs ring = flat_map without_last (map (arc_at arcs) ring)
 
 -- each arc begins where the one before ends, and the first where the last ends
 abbrev pub IsClosedWalk : List (List Point) → List ℤ → Type 0
@@ -19,12 +19,12 @@ pub record IsDrawnRing (arcs : List (List Point)) (ring : List ℤ) : Type 0 whe
   pub some : 0 < length ring
   pub in_range : All (IsIndex arcs) ring
   pub closed : IsClosedWalk arcs ring
-  pub simple : IsRing (told arcs ring)
+  pub simple : IsRing (points_round arcs ring)
   pub first : IsLeastAt ring (length ring) 0
 
 -- the steps of the rings, ring by ring
-abbrev pub steps_told : List (List Point) → List (List ℤ) → List (Point × Point)
-steps_told arcs rings = flat_map (λ ring. steps_of_ring (told arcs ring)) rings
+abbrev pub steps_round : List (List Point) → List (List ℤ) → List (Point × Point)
+steps_round arcs rings = flat_map (λ ring. steps_of_ring (points_round arcs ring)) rings
 
 -- twice the area of the triangle from (0, 0) to both points and back, above 0 where it goes to the left
 abbrev pub cross : Point → Point → ℤ

@@ -45,10 +45,10 @@ pub record AreGroups (rings : List (List ℤ)) (heads : List ℕ) (groups : List
   pub placed : All (λ group. ArePlaced rings (length rings) (rings_behind group)) groups
 
 -- each ring, and whether it is its own head, the first of them having the number k
-abbrev pub marked : ℕ → List (List ℤ) → List ℕ → List (List ℤ × Bool)
-marked k [] heads = []
-marked k (ring ∷ rings) [] = []
-marked k (ring ∷ rings) (head ∷ heads) = (ring, head == k) ∷ marked (k + 1) rings heads
+abbrev pub marks_from : ℕ → List (List ℤ) → List ℕ → List (List ℤ × Bool)
+marks_from k [] heads = []
+marks_from k (ring ∷ rings) [] = []
+marks_from k (ring ∷ rings) (head ∷ heads) = (ring, head == k) ∷ marks_from (k + 1) rings heads
 
 -- those that are their own heads
 abbrev pub fronts : List (List ℤ × Bool) → List (List ℤ)
@@ -71,13 +71,13 @@ is_filled (ring ∷ rings) = true
 -- slots of the first n rings, without those that are to stand behind others
 pub record AreFronts (rings : List (List ℤ)) (heads : List ℕ) (n : ℕ) (slots : List (List (List ℤ))) : Type 0 where
   pub count : length slots ≡ n
-  pub are : flat_map (λ slot. slot) slots ≡ fronts (take n (marked 0 rings heads))
+  pub are : flat_map (λ slot. slot) slots ≡ fronts (take n (marks_from 0 rings heads))
   pub each : (k : ℕ) → k < n → IsSlot rings heads k (get_or slots k [])
   pub bare : (k : ℕ) → k < n → rings_behind (get_or slots k []) ≡ []
 
 -- slots of all rings, in which of the first n those stand that are to stand behind others
 pub record AreSlots (rings : List (List ℤ)) (heads : List ℕ) (n : ℕ) (slots : List (List (List ℤ))) : Type 0 where
   pub count : length slots ≡ length rings
-  pub same : IsPermutation (fronts (marked 0 rings heads) ++ others (take n (marked 0 rings heads))) (flat_map (λ slot. slot) slots)
+  pub same : IsPermutation (fronts (marks_from 0 rings heads) ++ others (take n (marks_from 0 rings heads))) (flat_map (λ slot. slot) slots)
   pub each : (k : ℕ) → k < length rings → IsSlot rings heads k (get_or slots k [])
   pub placed : (k : ℕ) → k < length rings → ArePlaced rings n (rings_behind (get_or slots k []))

@@ -1,15 +1,16 @@
-//! The map of a grouping.
+// The map of a grouping.
 ghost use Rattle.std.specs.Prelude.{◌≡◌, ◌<◌, ◌≤◌, ℕ, length, sum, slice_index, All, IfOk};
-ghost use Rattle.agg_model.specs.Plan.{region, class_in};
+ghost use Rattle.agg_model.specs.Problem.{region, class_in};
 ghost use Rattle.coverage_check.specs.Kept.{odds_of};
 ghost use Rattle.arc_dissolve.specs.Drawing.{IsDrawingOf};
-ghost use Rattle.arc_dissolve.specs.Parts.{parts, IsFigureOf, AreFigures};
+ghost use Rattle.arc_dissolve.specs.Parts.{parts, IsShapeOfRings, AreShapesOfParts};
 ghost use Rattle.arc_dissolve.specs.Rings.{IsDrawnRing};
-ghost use Rattle.arc_dissolve.specs.Shapes.{lists_of};
+ghost use Rattle.agg_base.specs.Lists.{lists_of};
 
-use crate::groups::{all_rings, joined};
+use crate::groups::{all_rings, flatten};
 use crate::polygons::polygons_of;
 use crate::shapes::{Regions, Shape};
+use agg_base::limits::AREAS;
 use agg_base::{NoMemory, Text};
 use agg_model::Grouping;
 use coverage_check::Checked;
@@ -18,7 +19,7 @@ use region_edges::borders;
 use ring_arcs::arcs_of;
 use std::alloc::Global;
 
-/// The shape of some rings.
+// The shape of some rings.
 fn shape_of(
     alloc: Global,
     arcs: &[Vec<Point>],
@@ -26,14 +27,14 @@ fn shape_of(
     name: &Text,
 ) -> Result<Shape, NoMemory>
     requires { All (λ ring. IsDrawnRing (lists_of arcs.now) ring.items) rings.now }
-    ensures { IfOk result (λ shape. IsFigureOf (lists_of arcs.now) (lists_of rings.now) name.now shape) }
+    ensures { IfOk result (λ shape. IsShapeOfRings (lists_of arcs.now) (lists_of rings.now) name.now shape) }
 {
     let class = name.copy(alloc)?;
     let polygons = polygons_of(alloc, arcs, rings)?;
     Ok(Shape { class, polygons })
 }
 
-/// The shapes of regions that have so many rings each, the first region the first ones.
+// The shapes of regions that have so many rings each, the first region the first ones.
 fn shapes_of(
     alloc: Global,
     arcs: &[Vec<Point>],
@@ -46,7 +47,7 @@ fn shapes_of(
     requires counts { sum counts.now ≤ length rings.now }
     requires one_each { length classes.now ≡ length counts.now }
     requires classes { (r : ℕ) → r < length classes.now → slice_index classes.now r < length names.now }
-    ensures { IfOk result (λ shapes. AreFigures (lists_of arcs.now) (parts counts.now (lists_of rings.now)) classes.now names.now (length counts.now) shapes.items) }
+    ensures { IfOk result (λ shapes. AreShapesOfParts (lists_of arcs.now) (parts counts.now (lists_of rings.now)) classes.now names.now (length counts.now) shapes.items) }
 {
     let mut shapes = Vec::new(alloc);
     let mut left = rings;
@@ -77,12 +78,12 @@ pub fn dissolve(
 ) -> Result<Regions, NoMemory>
     requires one_each { length grouping.now.region_of ≡ length checked.now.areas }
     requires in_range { (v : ℕ) → v < length grouping.now.region_of → region grouping.now v < length grouping.now.class_of }
-    requires few { length grouping.now.class_of ≤ 65536 }
+    requires few { length grouping.now.class_of ≤ AREAS }
     requires classes { (r : ℕ) → r < length grouping.now.class_of → class_in grouping.now r < length names.now }
     ensures { IfOk result (λ regions. IsDrawingOf (odds_of checked.now.areas) grouping.now names.now regions) }
 {
     let borders = borders(alloc, checked, grouping)?;
-    let groups = joined(alloc, all_rings(alloc, &borders)?)?;
+    let groups = flatten(alloc, all_rings(alloc, &borders)?)?;
     let drawn = arcs_of(alloc, &groups.rings)?;
     let shapes = shapes_of(
         alloc,

@@ -1,4 +1,4 @@
-//! The least edge of a ring.
+// The least edge of a ring.
 ghost use Rattle.std.specs.Prelude.{◌≡◌, ◌<◌, length, IfOk};
 ghost use Rattle.plane_edge.specs.Plane.{IsBounded};
 ghost use Rattle.plane_edge.specs.Rings.{steps_of_ring};
@@ -8,14 +8,14 @@ use agg_base::NoMemory;
 use plane_edge::{Edge, Point, Spot, steps_of_ring};
 use std::alloc::Global;
 
-/// The lesser of two edges.
+// The lesser of two edges.
 fn lesser(one: Edge, other: Edge) -> Edge
     ensures { result ≡ lesser_edge one other }
 {
     if other < one { other } else { one }
 }
 
-/// The least edge.
+// The least edge.
 fn least_of(edges: &[Edge]) -> Edge
     requires { 0 < length edges.now }
     ensures { IsLeastOf edges.now result }

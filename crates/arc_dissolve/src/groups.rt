@@ -1,12 +1,13 @@
-//! The rings of all regions.
+// The rings of all regions.
 ghost use Rattle.std.specs.Prelude.{◌≡◌, ◌≤◌, ◌++◌, length, map, All, IfOk, OnOk};
 ghost use Rattle.std.specs.List.{AllZip};
 ghost use Rattle.plane_edge.specs.Edges.{HaveEvenEnds, IsRisingEdges};
 ghost use Rattle.region_rings.specs.RegionRings.{AreRingsOf};
-ghost use Rattle.arc_dissolve.specs.Drawing.{joined};
-ghost use Rattle.arc_dissolve.specs.Shapes.{lists_of, nested_of};
+ghost use Rattle.arc_dissolve.specs.Drawing.{one_list};
+ghost use Rattle.agg_base.specs.Lists.{lists_of, nested_of};
 
 use agg_base::NoMemory;
+use agg_base::limits::STEPS;
 use plane_edge::{Edge, Point};
 use region_rings::rings_of;
 use std::alloc::Global;
@@ -22,7 +23,7 @@ pub struct Groups {
 pub fn all_rings(alloc: Global, borders: &[Vec<Edge>]) -> Result<Vec<Vec<Vec<Point>>>, NoMemory>
     requires rising { All (λ border. IsRisingEdges border.items) borders.now }
     requires even { All (λ border. HaveEvenEnds border.items) borders.now }
-    requires few { All (λ border. length border.items ≤ 2097152) borders.now }
+    requires few { All (λ border. length border.items ≤ STEPS) borders.now }
     ensures { IfOk result (λ groups. AllZip AreRingsOf (lists_of borders.now) (nested_of groups.items)) }
 {
     let mut groups = Vec::new(alloc);
@@ -32,7 +33,7 @@ pub fn all_rings(alloc: Global, borders: &[Vec<Edge>]) -> Result<Vec<Vec<Vec<Poi
     Ok(groups)
 }
 
-/// Appends the rings.
+// Appends the rings.
 fn push_all(rings: &mut Vec<Vec<Point>>, group: Vec<Vec<Point>>) -> Result<(), NoMemory>
     ensures { OnOk result (lists_of rings.new.items ≡ lists_of rings.old.items ++ lists_of group.items) }
 {
@@ -43,8 +44,8 @@ fn push_all(rings: &mut Vec<Vec<Point>>, group: Vec<Vec<Point>>) -> Result<(), N
 }
 
 /// The rings of all regions in one list.
-pub fn joined(alloc: Global, groups: Vec<Vec<Vec<Point>>>) -> Result<Groups, NoMemory>
-    ensures rings { IfOk result (λ g. lists_of g.rings.items ≡ joined (nested_of groups.items)) }
+pub fn flatten(alloc: Global, groups: Vec<Vec<Vec<Point>>>) -> Result<Groups, NoMemory>
+    ensures rings { IfOk result (λ g. lists_of g.rings.items ≡ one_list (nested_of groups.items)) }
     ensures counts { IfOk result (λ g. g.counts.items ≡ map (λ group. length group) (nested_of groups.items)) }
 {
     let mut rings = Vec::new(alloc);

@@ -3,13 +3,16 @@
 
 mod drawing;
 mod edges;
+mod extent;
 mod groups;
 mod heads;
 mod numbers;
 mod outline;
 mod polygons;
+mod reach;
 mod shapes;
 mod shell;
+mod shells;
 mod slots;
 mod winding;
 

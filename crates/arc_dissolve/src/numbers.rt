@@ -1,4 +1,4 @@
-//! Numbers of arcs.
+// Numbers of arcs.
 ghost use Rattle.std.specs.Prelude.{◌≡◌};
 ghost use Rattle.ring_arcs.specs.Numbers.{number_of};
 ghost use Rattle.arc_dissolve.specs.Holes.{first_arc};

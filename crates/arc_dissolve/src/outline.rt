@@ -1,15 +1,15 @@
-//! Rings as lists of points.
+// Rings as lists of points.
 ghost use Rattle.std.specs.Prelude.{◌≡◌, ◌++◌, All, map, IfOk, OnOk};
 ghost use Rattle.ring_arcs.specs.RingArcs.{arc_at, without_last, IsIndex};
-ghost use Rattle.arc_dissolve.specs.Rings.{told};
-ghost use Rattle.arc_dissolve.specs.Shapes.{lists_of};
+ghost use Rattle.arc_dissolve.specs.Rings.{points_round};
+ghost use Rattle.agg_base.specs.Lists.{lists_of};
 
 use crate::numbers::number_of;
 use agg_base::NoMemory;
 use plane_edge::Point;
 use std::alloc::Global;
 
-/// The points of the arc that the index tells, in the direction that it tells.
+// The points of the arc that the index tells, in the direction that it tells.
 fn arc_at(alloc: Global, arcs: &[Vec<Point>], index: &i64) -> Result<Vec<Point>, NoMemory>
     requires { IsIndex (lists_of arcs.now) index.now }
     ensures { IfOk result (λ arc. arc.items ≡ arc_at (lists_of arcs.now) index.now) }
@@ -21,7 +21,7 @@ fn arc_at(alloc: Global, arcs: &[Vec<Point>], index: &i64) -> Result<Vec<Point>,
     Ok(arc)
 }
 
-/// Appends the points of a path without its last one.
+// Appends the points of a path without its last one.
 fn push_path(points: &mut Vec<Point>, path: &[Point]) -> Result<(), NoMemory>
     ensures { OnOk result (points.new.items ≡ points.old.items ++ without_last path.now) }
 {
@@ -31,9 +31,13 @@ fn push_path(points: &mut Vec<Point>, path: &[Point]) -> Result<(), NoMemory>
 }
 
 /// The points of the ring that the indexes tell.
-pub fn told(alloc: Global, arcs: &[Vec<Point>], ring: &[i64]) -> Result<Vec<Point>, NoMemory>
+pub fn points_round(
+    alloc: Global,
+    arcs: &[Vec<Point>],
+    ring: &[i64],
+) -> Result<Vec<Point>, NoMemory>
     requires { All (IsIndex (lists_of arcs.now)) ring.now }
-    ensures { IfOk result (λ points. points.items ≡ told (lists_of arcs.now) ring.now) }
+    ensures { IfOk result (λ points. points.items ≡ points_round (lists_of arcs.now) ring.now) }
 {
     let mut points = Vec::new(alloc);
     for index in ring {
@@ -50,11 +54,11 @@ pub fn outlines_of(
     rings: &[Vec<i64>],
 ) -> Result<Vec<Vec<Point>>, NoMemory>
     requires { All (λ ring. All (IsIndex (lists_of arcs.now)) ring.items) rings.now }
-    ensures { IfOk result (λ outlines. lists_of outlines.items ≡ map (told (lists_of arcs.now)) (lists_of rings.now)) }
+    ensures { IfOk result (λ outlines. lists_of outlines.items ≡ map (points_round (lists_of arcs.now)) (lists_of rings.now)) }
 {
     let mut outlines = Vec::new(alloc);
     for ring in rings {
-        outlines.push(told(alloc, arcs, ring)?)?;
+        outlines.push(points_round(alloc, arcs, ring)?)?;
     }
     Ok(outlines)
 }

@@ -1,21 +1,21 @@
-//! The polygons of a region.
+// The polygons of a region.
 ghost use Rattle.std.specs.Prelude.{◌≡◌, All, IfOk};
 ghost use Rattle.std.specs.List.Sorted.{IsNonDecreasingBy, IsPermutation};
 ghost use Rattle.arc_dissolve.specs.Drawing.{ArePolygonsOf};
 ghost use Rattle.arc_dissolve.specs.Holes.{first_arc};
 ghost use Rattle.arc_dissolve.specs.Rings.{IsDrawnRing};
-ghost use Rattle.arc_dissolve.specs.Shapes.{lists_of, nested_of};
+ghost use Rattle.agg_base.specs.Lists.{lists_of, nested_of};
 
 use crate::heads::heads_of;
 use crate::numbers::first_arc;
 use crate::outline::outlines_of;
-use crate::shell::shells_of;
-use crate::slots::grouped;
+use crate::shells::shells_of;
+use crate::slots::group;
 use agg_base::NoMemory;
 use plane_edge::Point;
 use std::alloc::Global;
 
-/// The same rings again.
+// The same rings again.
 fn copy(alloc: Global, rings: &[Vec<i64>]) -> Result<Vec<Vec<i64>>, NoMemory>
     ensures { IfOk result (λ copies. lists_of copies.items ≡ lists_of rings.now) }
 {
@@ -26,8 +26,8 @@ fn copy(alloc: Global, rings: &[Vec<i64>]) -> Result<Vec<Vec<i64>>, NoMemory>
     Ok(copies)
 }
 
-/// The rings in the order of their first arcs.
-fn ordered(alloc: Global, rings: &[Vec<i64>]) -> Result<Vec<Vec<i64>>, NoMemory>
+// The rings in the order of their first arcs.
+fn by_first_arc(alloc: Global, rings: &[Vec<i64>]) -> Result<Vec<Vec<i64>>, NoMemory>
     ensures same { IfOk result (λ copies. IsPermutation (lists_of rings.now) (lists_of copies.items)) }
     ensures in_order { IfOk result (λ copies. IsNonDecreasingBy first_arc (lists_of copies.items)) }
 {
@@ -46,10 +46,10 @@ pub fn polygons_of(
     requires { All (λ ring. IsDrawnRing (lists_of arcs.now) ring.items) rings.now }
     ensures { IfOk result (λ polygons. ArePolygonsOf (lists_of arcs.now) (lists_of rings.now) (nested_of polygons.items)) }
 {
-    let rings = ordered(alloc, rings)?;
+    let rings = by_first_arc(alloc, rings)?;
     let outlines = outlines_of(alloc, arcs, &rings)?;
     let shells = shells_of(alloc, &rings, &outlines)?;
     let heads = heads_of(alloc, &shells, &outlines)?;
-    let polygons = grouped(alloc, &rings, &heads)?;
+    let polygons = group(alloc, &rings, &heads)?;
     Ok(polygons)
 }

@@ -1,4 +1,4 @@
-//! Drawn maps.
+// Maps of regions.
 use agg_base::Text;
 use plane_edge::Point;
 use std::marker::Model;
@@ -14,9 +14,10 @@ pub struct Shape {
 }
 
 impl Model for Shape {
-    ghost use Rattle.arc_dissolve.specs.Shapes.{Figure, nested_of};
+    ghost use Rattle.arc_dissolve.specs.Shapes.{Shape};
+    ghost use Rattle.agg_base.specs.Lists.{nested_of, lists_of};
 
-    ghost Value = { Figure };
+    ghost Value = { Shape };
 
     ghost view = { λ s. record { class = s.class; polygons = nested_of s.polygons.items } };
 }
@@ -31,9 +32,10 @@ pub struct Regions {
 }
 
 impl Model for Regions {
-    ghost use Rattle.arc_dissolve.specs.Shapes.{Drawn, lists_of};
+    ghost use Rattle.agg_base.specs.Lists.{lists_of};
+    ghost use Rattle.arc_dissolve.specs.Shapes.{Regions};
 
-    ghost Value = { Drawn };
+    ghost Value = { Regions };
 
     ghost view = { λ r. record { arcs = lists_of r.arcs.items; shapes = r.shapes.items } };
 }

@@ -1,12 +1,12 @@
-//! Rings put together.
+// Rings put together.
 ghost use Rattle.std.specs.Prelude.{◌≡◌, ◌<◌, ◌++◌, ◌∷◌, [], if◌then◌else◌, length, get_or, slice_set, filter, IfOk, OnOk};
-ghost use Rattle.arc_dissolve.specs.Shapes.{lists_of, nested_of};
+ghost use Rattle.agg_base.specs.Lists.{lists_of, nested_of};
 ghost use Rattle.arc_dissolve.specs.Slots.{AreHeads, AreFronts, AreSlots, AreGroups, is_filled};
 
 use agg_base::NoMemory;
 use std::alloc::Global;
 
-/// A list of the ring alone where it is a head, else an empty list.
+// A list of the ring alone where it is a head, else an empty list.
 fn slot_of(alloc: Global, ring: &[i64], is_head: bool) -> Result<Vec<Vec<i64>>, NoMemory>
     ensures { IfOk result (λ slot. lists_of slot.items ≡ (if is_head then ring.now ∷ [] else [])) }
 {
@@ -17,7 +17,7 @@ fn slot_of(alloc: Global, ring: &[i64], is_head: bool) -> Result<Vec<Vec<i64>>, 
     Ok(slot)
 }
 
-/// For each ring a list of it alone, where it is a head, else an empty list.
+// For each ring a list of it alone, where it is a head, else an empty list.
 fn slots_of(
     alloc: Global,
     rings: &[Vec<i64>],
@@ -34,8 +34,8 @@ fn slots_of(
     Ok(slots)
 }
 
-/// Puts a ring into a slot.
-fn put(
+// Puts a ring into a slot.
+fn push_ring(
     slots: &mut Vec<Vec<Vec<i64>>>,
     alloc: Global,
     at: usize,
@@ -49,7 +49,7 @@ fn put(
     Ok(())
 }
 
-/// Puts each ring that is no head behind its head.
+// Puts each ring that is no head behind its head.
 fn fill(
     slots: &mut Vec<Vec<Vec<i64>>>,
     alloc: Global,
@@ -63,20 +63,20 @@ fn fill(
     for place in 0..rings.len() {
         let head = heads[place];
         if head != place {
-            put(slots, alloc, head, &rings[place])?;
+            push_ring(slots, alloc, head, &rings[place])?;
         }
     }
     Ok(())
 }
 
-/// Whether there is a ring in the slot.
+// Whether there is a ring in the slot.
 fn is_filled(slot: &[Vec<i64>]) -> bool
     ensures { result ≡ is_filled (lists_of slot.now) }
 {
     !slot.is_empty()
 }
 
-/// Takes the empty slots out.
+// Takes the empty slots out.
 fn drop_empty(slots: &mut Vec<Vec<Vec<i64>>>)
     ensures { nested_of slots.new.items ≡ filter is_filled (nested_of slots.old.items) }
 {
@@ -84,7 +84,7 @@ fn drop_empty(slots: &mut Vec<Vec<Vec<i64>>>)
 }
 
 /// The rings in lists, each head with those that stand with it.
-pub fn grouped(
+pub fn group(
     alloc: Global,
     rings: &[Vec<i64>],
     heads: &[usize],

@@ -1,6 +1,5 @@
 //! Worked values.
-ghost use Rattle.std.specs.Prelude.{◌<◌, ◌≤◌, EachIndex, IsTrue, slice_index};
-ghost use Rattle.plane_edge.specs.Rings.{step_count};
+ghost use Rattle.std.specs.Prelude.{◌<◌, EachIndex, IsTrue, slice_index};
 
 use super::*;
 use agg_base::Text;
@@ -36,35 +35,13 @@ fn area(rt: &impl Abort, alloc: Global, outlines: Rings<'_>) -> Result<Area, Fai
     Ok(Area::of_rings(alloc, Text::of(alloc, "own")?, &rings)?)
 }
 
-/// Whether the areas have few enough steps for a coverage.
-fn are_few(areas: &[Area]) -> bool
-    ensures { IsTrue result → step_count areas.now ≤ 2097152 }
-{
-    let mut total = 0;
-    for area in areas {
-        let steps = area.steps().len();
-        if steps > 2_097_152 - total {
-            return false;
-        }
-        total += steps;
-    }
-    true
-}
-
-/// The checked map of areas, each of some rings.
+// The checked map of areas, each of some rings.
 fn checked(rt: &impl Abort, alloc: Global, outlines: &[Rings<'_>]) -> Result<Checked, Fail> {
     let mut areas = Vec::new(alloc);
     for rings in outlines {
         areas.push(area(rt, alloc, rings)?)?;
     }
-    assert!(rt; areas.len() <= 65_536);
-    let few = are_few(&areas);
-    assert!(rt; few);
-    let coverage = Coverage {
-        areas,
-        passed: 0,
-        frame: Frame::Plain,
-    };
+    let coverage = Coverage::of(areas, 0, Frame::Plain).expect(rt, "too many areas or steps");
     match check(alloc, coverage, &Alone) {
         Ok(checked) => Ok(checked),
         Err(_) => Err(Fail::new("a fault of the coverage")),

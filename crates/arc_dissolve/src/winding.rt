@@ -1,11 +1,11 @@
-//! Which way round a ring goes.
+// Which way round a ring goes.
 ghost use Rattle.std.specs.Prelude.{◌≡◌, ◌+◌, ◌^◌, ◌≤◌, ◌+ℤ◌, ◌-ℤ◌, ◌*ℤ◌, unsigned_abs};
 ghost use Rattle.plane_edge.specs.Coordinate.{IsCoordinate};
 ghost use Rattle.arc_dissolve.specs.Rings.{cross, round_sum};
 
 use plane_edge::Point;
 
-/// The product of two coordinates.
+// The product of two coordinates.
 fn product(a: i32, b: i32) -> i128
     requires a_in_range { IsCoordinate a }
     requires b_in_range { IsCoordinate b }
@@ -15,7 +15,7 @@ fn product(a: i32, b: i32) -> i128
     i128::from(a) * i128::from(b)
 }
 
-/// The difference of two products.
+// The difference of two products.
 fn difference(a: i128, b: i128) -> i128
     requires a_within { unsigned_abs a ≤ 2 ^ 60 }
     requires b_within { unsigned_abs b ≤ 2 ^ 60 }
@@ -25,7 +25,7 @@ fn difference(a: i128, b: i128) -> i128
     a - b
 }
 
-/// Twice the area of the triangle from (0, 0) to both points and back, above 0 where it goes to the left.
+// Twice the area of the triangle from (0, 0) to both points and back, above 0 where it goes to the left.
 fn cross(from: &Point, to: &Point) -> i128
     ensures value { result ≡ cross from.now to.now }
     ensures within { unsigned_abs result ≤ 2 ^ 61 }
@@ -35,8 +35,8 @@ fn cross(from: &Point, to: &Point) -> i128
     difference(plus, minus)
 }
 
-/// The sum with one more term.
-fn added(sum: i128, term: i128) -> i128
+// The sum with one more term.
+fn add(sum: i128, term: i128) -> i128
     requires sum_within { unsigned_abs sum ≤ 2 ^ 125 }
     requires term_within { unsigned_abs term ≤ 2 ^ 61 }
     ensures value { result ≡ sum +ℤ term }
@@ -55,8 +55,8 @@ pub fn round_sum(ring: &[Point]) -> i128
     let mut from = *first;
     let mut sum = 0;
     for to in rest {
-        sum = added(sum, cross(&from, to));
+        sum = add(sum, cross(&from, to));
         from = *to;
     }
-    added(sum, cross(&from, first))
+    add(sum, cross(&from, first))
 }

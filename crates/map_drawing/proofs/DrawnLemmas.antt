@@ -2,23 +2,24 @@
 use Rattle.std.proofs.Common.{◌≡◌, ℕ, zero, suc, ◌<◌, List, [], ◌∷◌, length, map, get_or, Contains, refl, sym, subst, ap, ◌∙◌, arith}
 use Rattle.std.specs.List.{AllZip}
 use Rattle.plane_edge.specs.declared.edge.Edge.{Edge}
+use Rattle.plane_edge.specs.declared.frame.Frame.{Frame}
 use Rattle.plane_edge.specs.declared.point.Point.{Point}
 use Rattle.plane_edge.specs.Edges.{occurrences}
-use Rattle.plane_edge.specs.Rings.{Outline, ends_of}
-use Rattle.coverage_check.specs.Checked.{CheckedMap, IsChecked}
+use Rattle.plane_edge.specs.Rings.{Area, ends_of, times, is_same_step}
+use Rattle.coverage_check.specs.Checked.{Checked, IsChecked}
 use Rattle.coverage_check.specs.Kept.{odd_list, odds_of}
 use Rattle.coverage_check.specs.Cover.{IsDisjointCover}
 use Rattle.coverage_check.proofs.KeptLemmas.{odd_list_odd}
 use Rattle.coverage_check.proofs.Counts.{count-map, Contains-map}
 use Rattle.plane_edge.proofs.EqualLemmas.{edges_equal}
 use Rattle.plane_edge.proofs.OddLemmas.{contains_from_occurs, odd_inside}
-use Rattle.agg_model.specs.Plan.{Groups, region}
+use Rattle.agg_model.specs.Problem.{Grouping, region}
 use Rattle.region_edges.specs.RegionEdges.{IsBorderOf}
 use Rattle.region_edges.specs.PointSets.{AreStepsOf, AreRisingLists}
 use Rattle.region_edges.proofs.GatherLemmas.{rising_lists}
 use Rattle.region_edges.proofs.PointLemmas.{drawn_holds}
-use Rattle.region_rings.specs.RegionRings.{step_count, is_same_step}
-use Rattle.arc_dissolve.specs.Shapes.{Drawn, Figure}
+use Rattle.map_values.specs.Frames.{IsNumberFrame}
+use Rattle.arc_dissolve.specs.Shapes.{Regions, Shape}
 use Rattle.arc_dissolve.specs.Drawing.{IsDrawingOf, IsShapeOf, AreBorderSteps, steps_of}
 use Rattle.topo_writer.specs.Drawing.{IsWritable, IsAreaOf, SpellsDrawn}
 use Rattle.topo_writer.specs.MapText.{map_text}
@@ -28,7 +29,7 @@ use Rattle.map_drawing.specs.Drawn.{IsDrawable, IsDrawnRegion, IsDrawnMap, area_
 -- ---- steps and edges
 
 -- an edge stands among edges as often as its step among their steps
-occurrences-steps : (e : Edge) (es : List Edge) → step_count (ends_of e) (map ends_of es) ≡ occurrences e es
+occurrences-steps : (e : Edge) (es : List Edge) → times (ends_of e) (map ends_of es) ≡ occurrences e es
 occurrences-steps e es = count-map (λ t. is_same_step (ends_of e) t) ends_of es
 
 -- edges of the same ends are the same
@@ -46,7 +47,7 @@ contains_ends e es here = subst (λ f. Contains (map ends_of es) (ends_of f)) he
 -- ---- one region
 
 -- where the steps go along each border edge once and along no other edge, the border edges are the odd ones
-pub steps_odd : (odds : List (List Edge)) (g : Groups) (r : ℕ) (steps : List Edge) (all : List (Point × Point)) → map ends_of steps ≡ all
+pub steps_odd : (odds : List (List Edge)) (g : Grouping) (r : ℕ) (steps : List Edge) (all : List (Point × Point)) → map ends_of steps ≡ all
     → AreBorderSteps (IsBorderOf odds (region g) r) all → AreStepsOf odds (region g) r steps
 steps_odd odds g r steps all same are = λ e. (
   λ odd.
@@ -55,18 +56,18 @@ steps_odd odds g r steps all same are = λ e. (
       let border = are.only (ends_of e) here in
       subst (IsBorderOf odds (region g) r) (same_edge border.0 e border.1.0) border.1.1,
   λ border.
-      let once : step_count (ends_of e) (map ends_of steps) ≡ 1 = ap (step_count (ends_of e)) same ∙ are.once e border in
+      let once : times (ends_of e) (map ends_of steps) ≡ 1 = ap (times (ends_of e)) same ∙ are.once e border in
       let count : occurrences e steps ≡ 1 = sym (occurrences-steps e steps) ∙ once in
       omega arith,
 )
 
 -- a drawn region has its class's name, its border edges, and its points
-pub drawn_region : (odds : List (List Edge)) (g : Groups) (names : List (List ℕ)) (arcs : List (List Point)) (r : ℕ) (figure : Figure) (area : Outline)
-    → AreRisingLists odds → IsDisjointCover odds → IsShapeOf odds g names arcs r figure → IsAreaOf arcs figure area → IsDrawnRegion odds g names r area
-drawn_region odds g names arcs r figure area rising disjoint shape is =
-    let borders = steps_odd odds g r area.steps (steps_of arcs figure) is.steps_are shape.steps in
+pub drawn_region : (odds : List (List Edge)) (g : Grouping) (names : List (List ℕ)) (arcs : List (List Point)) (r : ℕ) (shape : Shape) (area : Area)
+    → AreRisingLists odds → IsDisjointCover odds → IsShapeOf odds g names arcs r shape → IsAreaOf arcs shape area → IsDrawnRegion odds g names r area
+drawn_region odds g names arcs r shape area rising disjoint right is =
+    let borders = steps_odd odds g r area.steps (steps_of arcs shape) is.steps_are right.steps in
     record {
-      class = is.class_is ∙ shape.class;
+      class = is.class_is ∙ right.class;
       borders = borders;
       points = λ s real.
           let alike = odd_inside area.steps (odd_list area.steps) (odd_list_odd area.steps) s in
@@ -76,13 +77,13 @@ drawn_region odds g names arcs r figure area rising disjoint shape is =
 
 -- ---- what may be written
 
-no_figure : Figure
-no_figure = record { class = []; polygons = [] }
+no_shape : Shape
+no_shape = record { class = []; polygons = [] }
 
 -- a drawing of a grouping may be written
-pub writable : (c : CheckedMap) (g : Groups) (names : List (List ℕ)) (drawn : Drawn) → IsDrawable c g names → IsDrawingOf (odds_of c.areas) g names drawn
-    → IsWritable drawn c.frame
-writable c g names drawn able drawing = drawing_is_writable (odds_of c.areas) g names drawn c.frame drawing able.frame able.named able.few able.classes
+pub writable : (c : Checked) (g : Grouping) (names : List (List ℕ)) (regions : Regions) (frame : Frame) → IsDrawable c g names → IsDrawingOf (odds_of c.areas) g names regions
+    → IsNumberFrame frame → IsWritable regions frame
+writable c g names regions frame able drawing good = drawing_is_writable (odds_of c.areas) g names regions frame drawing good able.named able.few able.classes
 
 -- ---- the whole map
 
@@ -99,13 +100,13 @@ zip_at R (x ∷ xs) [] i d e h k = absurd h
 zip_at R (x ∷ xs) (y ∷ ys) zero d e h k = h.0
 zip_at R (x ∷ xs) (y ∷ ys) (suc i) d e h k = zip_at R xs ys i d e h.1 (omega arith)
 
-pub drawn_map : (c : CheckedMap) (g : Groups) (names : List (List ℕ)) (drawn : Drawn) (text : List ℕ) → IsChecked c.areas
-    → IsDrawingOf (odds_of c.areas) g names drawn → text ≡ map_text drawn c.frame → SpellsDrawn text drawn c.frame
-    → IsDrawnMap (odds_of c.areas) g names c.frame text
-drawn_map c g names drawn text checked drawing layout spells =
-    let long : length drawn.shapes ≡ length spells.areas = zip_length (IsAreaOf drawn.arcs) drawn.shapes spells.areas spells.are in
+pub drawn_map : (c : Checked) (g : Grouping) (names : List (List ℕ)) (regions : Regions) (frame : Frame) (text : List ℕ) → IsChecked c.areas
+    → IsDrawingOf (odds_of c.areas) g names regions → text ≡ map_text regions frame → SpellsDrawn text regions frame
+    → IsDrawnMap (odds_of c.areas) g names frame text
+drawn_map c g names regions frame text checked drawing layout spells =
+    let long : length regions.shapes ≡ length spells.areas = zip_length (IsAreaOf regions.arcs) regions.shapes spells.areas spells.are in
     record {
-      drawn = drawn;
+      regions = regions;
       drawing = drawing;
       layout = layout;
       tree = spells.tree;
@@ -113,9 +114,9 @@ drawn_map c g names drawn text checked drawing layout spells =
       spelled = spells.text;
       topology = spells.topology;
       one_each = sym long ∙ drawing.count;
-      regions = λ r h.
-          drawn_region (odds_of c.areas) g names drawn.arcs r (get_or drawn.shapes r no_figure) (area_at spells.areas r)
+      each = λ r h.
+          drawn_region (odds_of c.areas) g names regions.arcs r (get_or regions.shapes r no_shape) (area_at spells.areas r)
           (rising_lists c.areas checked.parts) checked.disjoint
-          (drawing.each r no_figure (subst (λ n. r < n) (sym long ∙ drawing.count) h))
-          (zip_at (IsAreaOf drawn.arcs) drawn.shapes spells.areas r no_figure (record { class = []; steps = [] }) spells.are h);
+          (drawing.each r no_shape (subst (λ n. r < n) (sym long ∙ drawing.count) h))
+          (zip_at (IsAreaOf regions.arcs) regions.shapes spells.areas r no_shape (record { class = []; steps = [] }) spells.are h);
     }

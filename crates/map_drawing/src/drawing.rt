@@ -24,8 +24,8 @@ pub fn draw(
     requires drawable { IsDrawable checked.now grouping.now names.now }
     ensures { IfOk result (λ text. IsDrawnMap (odds_of checked.now.areas) grouping.now names.now checked.now.frame text.items) }
 {
-    checked.rules();
     let regions = dissolve(alloc, checked, grouping, names)?;
-    let map = text(alloc, &regions, checked.frame())?;
+    let frame = checked.frame();
+    let map = text(alloc, &regions, frame)?;
     Ok(map)
 }

@@ -1,7 +1,7 @@
 // Worked maps, whole texts.
 ghost use Rattle.std.specs.Prelude.{◌<◌, ◌≤◌, All, EachIndex, IsTrue, slice_index};
-ghost use Rattle.plane_edge.specs.Rings.{step_count};
-ghost use Rattle.topo_writer.specs.Drawing.{IsWritableClass, IsWritableFrame};
+ghost use Rattle.topo_writer.specs.Drawing.{IsWritableClass};
+ghost use Rattle.map_values.specs.Frames.{IsNumberFrame};
 ghost use Rattle.map_drawing.specs.Drawn.{IsDrawable};
 
 use crate::draw;
@@ -54,21 +54,6 @@ fn scaled(alloc: Global, sx: &str, sy: &str, tx: &str, ty: &str) -> Result<Frame
     })
 }
 
-// Whether the areas have few enough steps for a coverage.
-fn are_few(areas: &[Area]) -> bool
-    ensures { IsTrue result → step_count areas.now ≤ 2097152 }
-{
-    let mut total = 0;
-    for area in areas {
-        let steps = area.steps().len();
-        if steps > 2_097_152 - total {
-            return false;
-        }
-        total += steps;
-    }
-    true
-}
-
 // The checked map of these areas.
 fn checked(
     rt: &impl Abort,
@@ -76,14 +61,7 @@ fn checked(
     areas: Vec<Area>,
     frame: Frame,
 ) -> Result<Checked, Fail> {
-    assert!(rt; areas.len() <= 65_536);
-    let few = are_few(&areas);
-    assert!(rt; few);
-    let coverage = Coverage {
-        areas,
-        passed: 0,
-        frame,
-    };
+    let coverage = Coverage::of(areas, 0, frame).expect(rt, "too many areas or steps");
     match check(alloc, coverage, &Alone) {
         Ok(checked) => Ok(checked),
         Err(_) => Err(Fail::new("a fault of the coverage")),
@@ -158,7 +136,7 @@ fn are_class_names(names: &[Text]) -> bool
 
 // Whether the texts of a frame are numbers.
 fn is_number_frame(frame: &Frame) -> bool
-    ensures { IsTrue result → IsWritableFrame frame.now }
+    ensures { IsTrue result → IsNumberFrame frame.now }
 {
     match frame {
         Frame::Plain => true,

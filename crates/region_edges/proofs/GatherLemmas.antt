@@ -1,26 +1,27 @@
 -- The odd edges of a region's areas, one area after another: how often an edge stands among them, and lists of them for all regions.
-use Rattle.std.proofs.Common.{◌≡◌, ◌≢◌, ◌⊎◌, inl, inr, ℕ, zero, suc, ◌+◌, ◌%◌, ◌<◌, ◌==◌, refl, sym, ◌∙◌, ap, subst, arith, add-one, Bool, true, false, true≢false, if◌then◌else◌, ◌&&◌, List, [], ◌∷◌, ◌++◌, length, length-append, append-nil, replicate, take, slice_set, slice_index_or, count_by, All, Vec}
+use Rattle.std.proofs.Common.{◌≡◌, ◌≢◌, ◌⊎◌, inl, inr, ℕ, zero, suc, ◌+◌, ◌%◌, ◌<◌, ◌==◌, refl, sym, ◌∙◌, ap, subst, arith, add-one, Bool, true, false, true≢false, if◌then◌else◌, ◌&&◌, List, [], ◌∷◌, ◌++◌, length, length-append, append-nil, replicate, take, slice_set, slice_index_or, count_by, All, Vec, Global}
 use Rattle.std.specs.List.{list_any}
+use Rattle.std.specs.declared.alloc.Global.{Global}
 use Rattle.std.proofs.lemmas.Bool.Decides.{Decides-eqb}
 use Rattle.std.proofs.lemmas.List.{get_or-set_same, get_or-set_other, get_or-map, get_or-replicate, length-replicate, length-map}
 use Rattle.std.proofs.lemmas.List.Folds.{sum_by-replicate}
-use Rattle.std.proofs.lemmas.List.Sums.{sum_by-set, sum_by_more}
+use Rattle.std.proofs.lemmas.List.Sums.{sum_by-set, sum_by_more, sum_by-cons}
 use Rattle.std.proofs.Math.ListN.{length-set}
 use Rattle.plane_edge.specs.declared.edge.Edge.{Edge}
 use Rattle.plane_edge.specs.Edges.{is_same_edge, IsRisingEdges, occurrences, AreOddOf, HaveEvenEnds}
 use Rattle.plane_edge.specs.Line.{is_end_of}
-use Rattle.plane_edge.specs.Rings.{Outline}
 use Rattle.plane_edge.proofs.EvenLists.{bit, bit_yes, bit_no, count-append}
 use Rattle.plane_edge.proofs.OddLemmas.{occurrences-cons, occurs_once, odd_even_ends}
 use Rattle.coverage_check.specs.Cover.{odd_of}
-use Rattle.coverage_check.specs.Kept.{odds_of}
+use Rattle.coverage_check.specs.Kept.{OddArea, odds_of, odd_edge_count}
 use Rattle.coverage_check.specs.Parts.{IsOddPart}
 use Rattle.region_edges.specs.Gathering.{edges_in, AreGathered}
 use Rattle.region_edges.specs.PointSets.{AreRisingLists}
-use Rattle.region_edges.specs.RegionEdges.{count_below, is_odd_in, uses_in, AreBorderOf, lists, list_at, edge_count}
+use Rattle.region_edges.specs.RegionEdges.{count_below, is_odd_in, uses_in, AreBorderOf, list_at, edge_count}
+use Rattle.agg_base.specs.Lists.{lists_of}
 
-nowhere : Outline
-nowhere = record { class = []; steps = [] }
+nowhere : OddArea
+nowhere = record { class = []; odd_edges = [] }
 
 -- ---- counts
 -- of the gathered edges an odd number passes a test exactly where an odd number passes it in an odd number of the region's areas
@@ -84,7 +85,7 @@ gathered_even odds region r (suc n) h = λ p. go p (region n == r) (gathered_eve
 
 -- ---- lists for all regions
 -- the list of a region that vectors hold
-pub list_held : {A : Type 0} (vs : List (Vec Edge A)) (d : Vec Edge A) (r : ℕ) → r < length vs → list_at (lists vs) r ≡ (slice_index_or vs r d).items
+pub list_held : (vs : List (Vec Edge Global)) (d : Vec Edge Global) (r : ℕ) → r < length vs → list_at (lists_of vs) r ≡ (slice_index_or vs r d).items
 list_held vs d r h = get_or-map (λ v. v.items) vs r d [] h
 
 -- no area is gathered yet
@@ -138,25 +139,32 @@ more_gathered odds region regions n q xs ys es within low this part is g =
     subst (λ m. AreGathered odds region regions m ys) (sym (add-one n)) (subst (λ (zs : List (List Edge)). AreGathered odds region regions (suc n) zs) (sym same) (next_gathered odds region regions n xs within low g))
 
 -- ---- all areas
-odd_at : (areas : List Outline) (v : ℕ) → v < length areas → odd_of (odds_of areas) v ≡ (slice_index_or areas v nowhere).steps
-odd_at areas v l = get_or-map (λ a. a.steps) areas v nowhere [] l
+odd_at : (areas : List OddArea) (v : ℕ) → v < length areas → odd_of (odds_of areas) v ≡ (slice_index_or areas v nowhere).odd_edges
+odd_at areas v l = get_or-map (λ a. a.odd_edges) areas v nowhere [] l
 
 -- the odd edges of the areas are in rising order
-pub rising_lists : (areas : List Outline) → All IsOddPart areas → AreRisingLists (odds_of areas)
+pub rising_lists : (areas : List OddArea) → All IsOddPart areas → AreRisingLists (odds_of areas)
 rising_lists areas parts = λ v l.
-    let within : v < length areas = omega (arith, length-map areas (λ (a : Outline). a.steps)) in
+    let within : v < length areas = omega (arith, length-map areas (λ (a : OddArea). a.odd_edges)) in
     subst IsRisingEdges (sym (odd_at areas v within)) (parts v nowhere within).rising
 
 -- and each point is an end of an even number of them
-even_lists : (areas : List Outline) → All IsOddPart areas → (v : ℕ) → v < length areas → HaveEvenEnds (odd_of (odds_of areas) v)
+even_lists : (areas : List OddArea) → All IsOddPart areas → (v : ℕ) → v < length areas → HaveEvenEnds (odd_of (odds_of areas) v)
 even_lists areas parts v l = subst HaveEvenEnds (sym (odd_at areas v l)) (parts v nowhere l).even
 
 -- once all areas are gathered, the odd ones of a region's edges are its border edges, and each point is an end of an even number of them
-pub all_gathered : (areas : List Outline) (region : ℕ → ℕ) (regions r : ℕ) (edges : List (List Edge)) (odd : List Edge) → All IsOddPart areas → AreGathered (odds_of areas) region regions (length areas) edges → r < regions
+pub all_gathered : (areas : List OddArea) (region : ℕ → ℕ) (regions r : ℕ) (edges : List (List Edge)) (odd : List Edge) → All IsOddPart areas → AreGathered (odds_of areas) region regions (length areas) edges → r < regions
     → AreOddOf (list_at edges r) odd → AreBorderOf (odds_of areas) region r odd × HaveEvenEnds odd
 all_gathered areas region regions r edges odd parts g l is =
     let all : AreOddOf (edges_in (odds_of areas) region r (length areas)) odd = subst (λ (es : List Edge). AreOddOf es odd) (g.each r l) is in
-    let whole : AreOddOf (edges_in (odds_of areas) region r (length (odds_of areas))) odd = subst (λ n. AreOddOf (edges_in (odds_of areas) region r n) odd) (sym (length-map areas (λ (a : Outline). a.steps))) all in (
+    let whole : AreOddOf (edges_in (odds_of areas) region r (length (odds_of areas))) odd = subst (λ n. AreOddOf (edges_in (odds_of areas) region r n) odd) (sym (length-map areas (λ (a : OddArea). a.odd_edges))) all in (
       border_of_gathered (odds_of areas) region r odd (rising_lists areas parts) whole,
       odd_even_ends (edges_in (odds_of areas) region r (length areas)) odd all (gathered_even (odds_of areas) region r (length areas) (even_lists areas parts)),
     )
+
+-- the areas together have as many odd edges as their lists
+pub all_counted : (areas : List OddArea) → edge_count (take (length areas) (odds_of areas)) ≡ odd_edge_count areas
+all_counted [] = refl
+all_counted (a ∷ areas) =
+    sum_by-cons (λ (es : List Edge). length es) a.odd_edges (take (length areas) (odds_of areas)) ∙ ap (λ n. length a.odd_edges + n) (all_counted areas)
+    ∙ sym (sum_by-cons (λ (b : OddArea). length b.odd_edges) a areas)

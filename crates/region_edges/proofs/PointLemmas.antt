@@ -5,7 +5,7 @@ use Rattle.std.proofs.lemmas.Bool.Decides.{Decides-eqb}
 use Rattle.plane_edge.specs.declared.edge.Edge.{Edge}
 use Rattle.plane_edge.specs.declared.spot.Spot.{Spot}
 use Rattle.plane_edge.specs.Edges.{is_same_edge, occurrences, IsOdd}
-use Rattle.plane_edge.specs.Plane.{crosses, IsInside}
+use Rattle.plane_edge.specs.Plane.{is_crossed, IsInside}
 use Rattle.plane_edge.proofs.EvenLists.{bit, same_parity}
 use Rattle.plane_edge.proofs.OddLemmas.{contains_from_occurs, occurs_from_contains, occurs_once}
 use Rattle.plane_edge.proofs.OrderLemmas.{same_edges_equal, same_edge_itself}
@@ -39,45 +39,45 @@ both a b p q = rw (p, q) refl
 
 -- an area of region r that holds the spot, as a test
 abbrev holds : List (List Edge) → (ℕ → ℕ) → ℕ → Spot → ℕ → Bool
-holds odds region r s v = (region v == r) && (count_by (λ e. crosses e s) (odd_of odds v) % 2 == 1)
+holds odds region r s v = (region v == r) && (count_by (λ e. is_crossed e s) (odd_of odds v) % 2 == 1)
 
 -- steps along the border edges of a region cross as the odd edges of its areas do
 crossed_alike : (odds : List (List Edge)) (region : ℕ → ℕ) (r : ℕ) (steps : List Edge) (s : Spot) → AreRisingLists odds → AreStepsOf odds region r steps
-    → count_by (λ e. crosses e s) steps % 2 ≡ count_below (length odds) (holds odds region r s) % 2
+    → count_by (λ e. is_crossed e s) steps % 2 ≡ count_below (length odds) (holds odds region r s) % 2
 crossed_alike odds region r steps s rising along =
     let all = edges_in odds region r (length odds) in
     let stand : (e : Edge) → occurrences e steps % 2 ≡ occurrences e all % 2 = λ e. alike (occurrences e steps) (uses_in odds region r e) (along e).0 (along e).1 ∙ sym (stands_as_used odds region r rising e) in
-    same_parity is_same_edge same_edges_equal same_edge_itself (λ e. crosses e s) steps all stand
-    ∙ gathered_parity odds region r (length odds) (λ e. crosses e s) (λ v. count_by (λ e. crosses e s) (odd_of odds v) % 2 == 1) (λ v l. is_odd (count_by (λ e. crosses e s) (odd_of odds v)))
+    same_parity is_same_edge same_edges_equal same_edge_itself (λ e. is_crossed e s) steps all stand
+    ∙ gathered_parity odds region r (length odds) (λ e. is_crossed e s) (λ v. count_by (λ e. is_crossed e s) (odd_of odds v) % 2 == 1) (λ v l. is_odd (count_by (λ e. is_crossed e s) (odd_of odds v)))
 
 -- no two areas hold the spot
 held_once : (odds : List (List Edge)) (region : ℕ → ℕ) (r : ℕ) (s : Spot) → pos 0 <ℤ s.m → IsDisjointCover odds → count_below (length odds) (holds odds region r s) ≤ 1
 held_once odds region r s real disjoint = one_below (length odds) (holds odds region r s) (λ u v l m p q. disjoint u v s (record { real = real; rising = l; in_a = inside u p; in_b = inside v q }))
   where
     inside : (v : ℕ) → holds odds region r s v ≡ true → IsInside (odd_of odds v) s
-    inside v e = (Decides-eqb (count_by (λ e. crosses e s) (odd_of odds v) % 2) 1).0 (and_parts (region v == r) (count_by (λ e. crosses e s) (odd_of odds v) % 2 == 1) e).1
+    inside v e = (Decides-eqb (count_by (λ e. is_crossed e s) (odd_of odds v) % 2) 1).0 (and_parts (region v == r) (count_by (λ e. is_crossed e s) (odd_of odds v) % 2 == 1) e).1
 
 pub drawn_holds : DrawnLaw
 drawn_holds odds region r steps s real rising disjoint along = (to, from)
   where
     in_area : ℕ → Bool
-    in_area v = count_by (λ e. crosses e s) (odd_of odds v) % 2 == 1
+    in_area v = count_by (λ e. is_crossed e s) (odd_of odds v) % 2 == 1
 
     most : count_below (length odds) (holds odds region r s) ≤ 1
     most = held_once odds region r s real disjoint
 
-    crossed : count_by (λ e. crosses e s) steps % 2 ≡ count_below (length odds) (holds odds region r s) % 2
+    crossed : count_by (λ e. is_crossed e s) steps % 2 ≡ count_below (length odds) (holds odds region r s) % 2
     crossed = crossed_alike odds region r steps s rising along
 
     to : IsInside steps s → IsHeldBy odds region r s
     to i =
         let held = some_below (length odds) (holds odds region r s) (omega (arith, crossed, i)) in
         let parts = and_parts (region held.0 == r) (in_area held.0) held.2 in
-        (held.0, held.1, (Decides-eqb (region held.0) r).0 parts.0, (Decides-eqb (count_by (λ e. crosses e s) (odd_of odds held.0) % 2) 1).0 parts.1)
+        (held.0, held.1, (Decides-eqb (region held.0) r).0 parts.0, (Decides-eqb (count_by (λ e. is_crossed e s) (odd_of odds held.0) % 2) 1).0 parts.1)
 
     from : IsHeldBy odds region r s → IsInside steps s
     from h =
-        let test : holds odds region r s h.0 ≡ true = both (region h.0 == r) (in_area h.0) ((Decides-eqb (region h.0) r).1 h.2) ((Decides-eqb (count_by (λ e. crosses e s) (odd_of odds h.0) % 2) 1).1 h.3) in
+        let test : holds odds region r s h.0 ≡ true = both (region h.0 == r) (in_area h.0) ((Decides-eqb (region h.0) r).1 h.2) ((Decides-eqb (count_by (λ e. is_crossed e s) (odd_of odds h.0) % 2) 1).1 h.3) in
         let some = counted_below (length odds) (holds odds region r s) h.0 h.1 test in
         omega (arith, crossed, some, most)
 

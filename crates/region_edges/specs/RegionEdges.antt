@@ -1,5 +1,5 @@
 -- The border edges of a region: those that are odd in an odd number of its areas.
-use Rattle.std.specs.Prelude.{◌≡◌, ◌↔◌, ℕ, zero, suc, ◌+◌, ◌%◌, ◌==◌, Bool, ◌&&◌, if◌then◌else◌, List, [], length, map, get_or, sum_by, Contains, Vec}
+use Rattle.std.specs.Prelude.{◌≡◌, ◌↔◌, ℕ, zero, suc, ◌+◌, ◌%◌, ◌==◌, Bool, ◌&&◌, if◌then◌else◌, List, [], length, get_or, sum_by, Contains}
 use Rattle.std.specs.List.{list_any}
 use Rattle.plane_edge.specs.declared.edge.Edge.{Edge}
 use Rattle.plane_edge.specs.Edges.{is_same_edge, IsRisingEdges}
@@ -26,10 +26,6 @@ IsBorderOf odds region r e = uses_in odds region r e % 2 ≡ 1
 pub record AreBorderOf (odds : List (List Edge)) (region : ℕ → ℕ) (r : ℕ) (edges : List Edge) : Type 0 where
   pub rising : IsRisingEdges edges
   pub exact : (e : Edge) → Contains edges e ↔ IsBorderOf odds region r e
-
--- the lists that vectors hold
-abbrev pub lists : {A : Type 0} → List (Vec Edge A) → List (List Edge)
-lists = map (λ v. v.items)
 
 -- the list of the region, none past the last region
 abbrev pub list_at : List (List Edge) → ℕ → List Edge

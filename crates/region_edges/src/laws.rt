@@ -1,4 +1,4 @@
-//! What a region holds.
+// What a region holds.
 ghost use Rattle.region_edges.specs.PointSets.{DrawnLaw, PointSetsLaw};
 
 /// A point is inside the border edges of a region exactly where it is inside one of the region's areas, if no two areas share a point.

@@ -1,11 +1,13 @@
-//! The border edges of all regions.
+// The border edges of all regions.
 ghost use Rattle.std.specs.Prelude.{◌≡◌, ◌<◌, ◌≤◌, ℕ, IfOk, length};
-ghost use Rattle.agg_model.specs.Plan.{region};
+ghost use Rattle.agg_base.specs.declared.limits.TheConstants.{AREAS, STEPS};
+ghost use Rattle.agg_model.specs.Problem.{region};
 ghost use Rattle.coverage_check.specs.Kept.{odds_of};
 ghost use Rattle.plane_edge.specs.Edges.{HaveEvenEnds};
-ghost use Rattle.region_edges.specs.RegionEdges.{AreBorderOf, edge_count, list_at, lists};
+ghost use Rattle.region_edges.specs.RegionEdges.{AreBorderOf, edge_count, list_at};
+ghost use Rattle.agg_base.specs.Lists.{lists_of};
 
-use crate::gathering::gathered;
+use crate::gathering::gather;
 use crate::sweeping::odd_of_each;
 use agg_base::NoMemory;
 use agg_model::Grouping;
@@ -15,7 +17,7 @@ use std::alloc::Global;
 
 /// The border edges of each region: those that are odd in an odd number of its areas, each once, in rising order. The list of region r
 /// stands at place r, and is empty where no area is in the region. Each point is an end of an even number of the edges of a list, and all
-/// lists together have at most 2,097,152 edges. The one refusal is want of memory.
+/// lists together have at most `STEPS` edges. The one refusal is want of memory.
 pub fn borders(
     alloc: Global,
     checked: &Checked,
@@ -23,14 +25,13 @@ pub fn borders(
 ) -> Result<Vec<Vec<Edge>>, NoMemory>
     requires one_each { length grouping.now.region_of ≡ length checked.now.areas }
     requires in_range { (v : ℕ) → v < length grouping.now.region_of → region grouping.now v < length grouping.now.class_of }
-    requires few { length grouping.now.class_of ≤ 65536 }
+    requires few { length grouping.now.class_of ≤ AREAS }
     ensures one_each { IfOk result (λ bs. length bs.items ≡ length grouping.now.class_of) }
-    ensures borders { IfOk result (λ bs. (r : ℕ) → r < length grouping.now.class_of → AreBorderOf (odds_of checked.now.areas) (region grouping.now) r (list_at (lists bs.items) r)) }
-    ensures even { IfOk result (λ bs. (r : ℕ) → r < length bs.items → HaveEvenEnds (list_at (lists bs.items) r)) }
-    ensures few { IfOk result (λ bs. edge_count (lists bs.items) ≤ 2097152) }
+    ensures borders { IfOk result (λ bs. (r : ℕ) → r < length grouping.now.class_of → AreBorderOf (odds_of checked.now.areas) (region grouping.now) r (list_at (lists_of bs.items) r)) }
+    ensures even { IfOk result (λ bs. (r : ℕ) → r < length bs.items → HaveEvenEnds (list_at (lists_of bs.items) r)) }
+    ensures few { IfOk result (λ bs. edge_count (lists_of bs.items) ≤ STEPS) }
 {
-    checked.rules();
-    let edges = gathered(alloc, checked, grouping)?;
+    let edges = gather(alloc, checked, grouping)?;
     let borders = odd_of_each(alloc, edges)?;
     Ok(borders)
 }

@@ -1,9 +1,8 @@
-ghost use Rattle.std.specs.Prelude.{◌≡◌, ◌<◌, ◌≤◌, ℕ, EachIndex, IsTrue, length, slice_index};
-ghost use Rattle.agg_model.specs.Plan.{region};
-ghost use Rattle.plane_edge.specs.Rings.{step_count};
+ghost use Rattle.std.specs.Prelude.{◌<◌, EachIndex, IsTrue, length, slice_index};
 
 use super::{borders, drawn_law, point_sets_law};
 use agg_base::Text;
+use agg_base::limits::AREAS;
 use agg_model::Grouping;
 use coverage_check::{Checked, check};
 use crew_work::Alone;
@@ -12,17 +11,17 @@ use std::alloc::Global;
 use std::process::Abort;
 use std::test::Fail;
 
-/// A point within the limit.
+// A point within the limit.
 fn point(rt: &impl Abort, [x, y]: [i64; 2]) -> Point {
     Point::of(x, y).expect(rt, "a coordinate past the limit")
 }
 
-/// The edge between two points.
+// The edge between two points.
 fn edge(rt: &impl Abort, a: [i64; 2], b: [i64; 2]) -> Edge {
     Edge::of(point(rt, a), point(rt, b)).expect(rt, "equal ends")
 }
 
-/// The unit cell whose least corner is given.
+// The unit cell whose least corner is given.
 fn cell(rt: &impl Abort, alloc: Global, [x, y]: [i64; 2]) -> Result<Area, Fail> {
     let right = x.saturating_add(1);
     let top = y.saturating_add(1);
@@ -35,43 +34,21 @@ fn cell(rt: &impl Abort, alloc: Global, [x, y]: [i64; 2]) -> Result<Area, Fail> 
     Ok(Area::of_rings(alloc, Text::of(alloc, "1")?, &rings)?)
 }
 
-/// Whether the areas have few enough steps for a coverage.
-fn are_few(areas: &[Area]) -> bool
-    ensures { IsTrue result → step_count areas.now ≤ 2097152 }
-{
-    let mut total = 0;
-    for area in areas {
-        let steps = area.steps().len();
-        if steps > 2_097_152 - total {
-            return false;
-        }
-        total += steps;
-    }
-    true
-}
-
-/// The checked map of some unit cells, each an area.
+// The checked map of some unit cells, each an area.
 fn cells(rt: &impl Abort, alloc: Global, corners: &[[i64; 2]]) -> Result<Checked, Fail> {
     let mut areas = Vec::new(alloc);
     for corner in corners {
         areas.push(cell(rt, alloc, *corner)?)?;
     }
-    assert!(rt; areas.len() <= 65_536);
-    let few = are_few(&areas);
-    assert!(rt; few);
-    let coverage = Coverage {
-        areas,
-        passed: 0,
-        frame: Frame::Plain,
-    };
+    let coverage = Coverage::of(areas, 0, Frame::Plain).expect(rt, "too many areas or steps");
     match check(alloc, coverage, &Alone) {
         Ok(checked) => Ok(checked),
         Err(_) => Err(Fail::new("a fault of the coverage")),
     }
 }
 
-/// Whether all regions are below the number of regions.
-fn all_below(region_of: &[u32], regions: usize) -> bool
+// Whether all regions are below the number of regions.
+fn are_below(region_of: &[u32], regions: usize) -> bool
     ensures { IsTrue result → EachIndex region_of.now (λ v. slice_index region_of.now v < regions) }
 {
     for region in region_of {
@@ -82,7 +59,7 @@ fn all_below(region_of: &[u32], regions: usize) -> bool
     true
 }
 
-/// The border edges of the regions of a map.
+// The border edges of the regions of a map.
 fn regions(
     rt: &impl Abort,
     alloc: Global,
@@ -95,8 +72,8 @@ fn regions(
         class_of: Vec::from_slice(alloc, class_of)?,
     };
     let count = grouping.class_of.len();
-    assert!(rt; grouping.region_of.len() == map.areas() && count <= 65_536);
-    let below = all_below(&grouping.region_of, count);
+    assert!(rt; grouping.region_of.len() == map.areas() && count <= AREAS);
+    let below = are_below(&grouping.region_of, count);
     assert!(rt; below);
     Ok(borders(alloc, map, &grouping)?)
 }

@@ -11,7 +11,7 @@ use Rattle.plane_edge.specs.Order.{is_below}
 use Rattle.plane_edge.proofs.OrderLemmas.{point_order, point_order_total, below_is_less, same_is_equal, same_points_equal, same_point_itself, point_irreflexive}
 use Rattle.region_rings.specs.declared.spoke.Spoke.{Spoke}
 use Rattle.region_rings.specs.Spokes.{spoke, IsEndAt, AreInOrder, AreSpokesOf, IsFirstAt}
-use Rattle.region_rings.specs.Courses.{Course, IsOpenAt, IsNoneOpenAt}
+use Rattle.region_rings.specs.Walks.{Walk, IsOpenAt, IsNoneOpenAt}
 
 -- ---- tests
 swapped : (a b : Bool) → (a && b) ≡ (b && a)
@@ -55,7 +55,7 @@ less_of Equal h = absurd (true≢false (sym h))
 less_of Greater h = absurd (true≢false (sym h))
 
 -- p is not after q, and q is below r
-below_after : (p q r : Point) → is_below q p ≡ false → is_below q r ≡ true → is_below p r ≡ true
+pub below_after : (p q r : Point) → is_below q p ≡ false → is_below q r ≡ true → is_below p r ≡ true
 below_after p q r h k = go (point_order p q) refl
   where
     less : point_order q r ≡ Less
@@ -108,18 +108,18 @@ first_found spokes p i o has part = go (in_two i has.1.0)
 
 -- ---- the search for the next edge
 -- what is known of the spokes before `place`
-pub record IsSearched (edges : List Edge) (spokes : List Spoke) (w : Course) (at : Point) (first place : ℕ) (best : Option ℕ) : Type 0 where
+pub record IsSearched (edges : List Edge) (spokes : List Spoke) (w : Walk) (at : Point) (first place : ℕ) (best : Option ℕ) : Type 0 where
   pub some : IfSome best (λ e. IsOpenAt edges w e at)
   pub none : IfNone best ((k : ℕ) (s : Spoke) (d : Bool) → first ≤ k → k < place → get_or w.walked (get_or spokes k s).edge d ≡ true)
 
-pub searched_none : (edges : List Edge) (spokes : List Spoke) (w : Course) (at : Point) (first : ℕ) → IsSearched edges spokes w at first first None
+pub searched_none : (edges : List Edge) (spokes : List Spoke) (w : Walk) (at : Point) (first : ℕ) → IsSearched edges spokes w at first first None
 searched_none edges spokes w at first = record { some = tt; none = λ k s d h l. absurd (omega arith) }
 
 -- the edge of the spoke ends at its point
 pub spoke_ends : (edges : List Edge) (spokes : List Spoke) (place : ℕ) (s : Spoke) (at : Point) → AreSpokesOf edges spokes → place < length spokes → s ≡ get_or spokes place s → s.at ≡ at → IsEndAt edges s.edge at
 spoke_ends edges spokes place s at a l is here = subst (λ (p : Point). IsEndAt edges s.edge p) here ((a.exact s.edge s.at).0 (place, l, sym is))
 
-pub searched_taken : (edges : List Edge) (spokes : List Spoke) (w : Course) (at : Point) (first place : ℕ) (s : Spoke) → AreSpokesOf edges spokes → length w.walked ≡ length edges → place < length spokes → s ≡ get_or spokes place s → s.at ≡ at → get_or w.walked s.edge true ≡ false →
+pub searched_taken : (edges : List Edge) (spokes : List Spoke) (w : Walk) (at : Point) (first place : ℕ) (s : Spoke) → AreSpokesOf edges spokes → length w.walked ≡ length edges → place < length spokes → s ≡ get_or spokes place s → s.at ≡ at → get_or w.walked s.edge true ≡ false →
     IsSearched edges spokes w at first (place + 1) (Some s.edge)
 searched_taken edges spokes w at first place s a m l is here open' =
     let end = spoke_ends edges spokes place s at a l is here in
@@ -129,14 +129,14 @@ searched_taken edges spokes w at first place s a m l is here open' =
       none = tt;
     }
 
-pub searched_better : (edges : List Edge) (spokes : List Spoke) (w : Course) (at : Point) (first place : ℕ) (best : Option ℕ) → IsSearched edges spokes w at first place best → (IfNone best (false ≡ true)) → IsSearched edges spokes w at first (place + 1) best
+pub searched_better : (edges : List Edge) (spokes : List Spoke) (w : Walk) (at : Point) (first place : ℕ) (best : Option ℕ) → IsSearched edges spokes w at first place best → (IfNone best (false ≡ true)) → IsSearched edges spokes w at first (place + 1) best
 searched_better edges spokes w at first place None h n = absurd (true≢false (sym n))
 searched_better edges spokes w at first place (Some e) h n = record { some = h.some; none = tt }
 
 one_more : (k n : ℕ) → k < n + 1 → (k < n) ⊎ (k ≡ n)
 one_more k n h = grind arith
 
-pub searched_walked : (edges : List Edge) (spokes : List Spoke) (w : Course) (at : Point) (first place : ℕ) (s : Spoke) (best : Option ℕ) → AreSpokesOf edges spokes → length w.walked ≡ length edges → place < length spokes → s ≡ get_or spokes place s → s.at ≡ at → get_or w.walked s.edge true ≡ true →
+pub searched_walked : (edges : List Edge) (spokes : List Spoke) (w : Walk) (at : Point) (first place : ℕ) (s : Spoke) (best : Option ℕ) → AreSpokesOf edges spokes → length w.walked ≡ length edges → place < length spokes → s ≡ get_or spokes place s → s.at ≡ at → get_or w.walked s.edge true ≡ true →
     IsSearched edges spokes w at first place best → IsSearched edges spokes w at first (place + 1) best
 searched_walked edges spokes w at first place s (Some e) a m l is here done h = record { some = h.some; none = tt }
 searched_walked edges spokes w at first place s None a m l is here done h = record { some = tt; none = λ k t d b c. go k t d b (one_more k place c) }
@@ -166,7 +166,7 @@ past_others edges spokes at first place s a f b l is other = record {
       );
 }
 
-pub searched_all : (edges : List Edge) (spokes : List Spoke) (w : Course) (at : Point) (first place : ℕ) (best : Option ℕ) → AreSpokesOf edges spokes → IsFirstAt spokes at first → IsPast spokes at place → IsSearched edges spokes w at first place best → IfNone best (IsNoneOpenAt edges w at)
+pub searched_all : (edges : List Edge) (spokes : List Spoke) (w : Walk) (at : Point) (first place : ℕ) (best : Option ℕ) → AreSpokesOf edges spokes → IsFirstAt spokes at first → IsPast spokes at place → IsSearched edges spokes w at first place best → IfNone best (IsNoneOpenAt edges w at)
 searched_all edges spokes w at first place (Some e) a f p h = tt
 searched_all edges spokes w at first place None a f p h = λ i d t. (
     let c = (a.exact i at).1 t in

@@ -7,16 +7,15 @@ use Rattle.plane_edge.specs.declared.edge.Edge.{Edge}
 use Rattle.plane_edge.specs.declared.point.Point.{Point}
 use Rattle.plane_edge.specs.Edges.{is_same_point, IsRisingEdges}
 use Rattle.plane_edge.specs.Line.{is_end_of}
-use Rattle.plane_edge.specs.Rings.{ends_of, step_between, steps_of_ring}
+use Rattle.plane_edge.specs.Rings.{ends_of, step_between, steps_of_ring, IsRing, is_same_step, times, VisitsNoneTwice}
 use Rattle.plane_edge.proofs.EndLemmas.{not_both}
 use Rattle.plane_edge.proofs.EvenLists.{bit, count-cons, count-map}
 use Rattle.plane_edge.proofs.OddLemmas.{occurs_once}
 use Rattle.plane_edge.proofs.OrderLemmas.{same_points_equal, same_point_itself, same_edge_itself}
 use Rattle.region_rings.specs.declared.spoke.Spoke.{Spoke}
-use Rattle.region_rings.specs.RegionRings.{VisitsNoneTwice, IsRing, is_same_step, step_count}
 use Rattle.region_rings.specs.Spokes.{IsFirstAt}
 use Rattle.region_rings.specs.Ways.{other_end_of}
-use Rattle.region_rings.specs.Courses.{Course, along, onto, cut_at, is_visited, reaching, unwalked, IsOpenAt}
+use Rattle.region_rings.specs.Walks.{Walk, along, onto, cut_at, is_visited, reaching, edges_left, IsOpenAt}
 use Rattle.region_rings.proofs.Underway.{steps_of_path, once, IsUnderway}
 use Rattle.region_rings.proofs.StepLemmas.{steps-push, steps-cut, count-steps, step_of_path, step_up, step_down}
 use Rattle.region_rings.proofs.MarkLemmas.{count-walked}
@@ -86,23 +85,23 @@ along_edge e at h = go (end_cases (is_same_point e.low at) (is_same_point e.high
     go (inr b) = rw b.0 (subst (λ (p : Point). IsAlong e p e.low) (same_points_equal e.high at b.1) (downwards e))
 
 -- ---- along an edge
-count_ends : (s : Point × Point) (es : List Edge) → step_count s (map ends_of es) ≡ count_by (λ e. is_same_step s (ends_of e)) es
+count_ends : (s : Point × Point) (es : List Edge) → times s (map ends_of es) ≡ count_by (λ e. is_same_step s (ends_of e)) es
 count_ends s es = count-map (λ t. is_same_step s t) ends_of es
 
-count_step : (s t : Point × Point) → step_count s (t ∷ []) ≡ bit (is_same_step s t)
+count_step : (s t : Point × Point) → times s (t ∷ []) ≡ bit (is_same_step s t)
 count_step s t = omega (arith, count-cons (λ u. is_same_step s u) t [])
 
-tally_along : (edges : List Edge) (spokes : List Spoke) (w : Course) (start at to : Point) (i : ℕ) (e : Edge) → IsUnderway edges spokes w start at → IsOpenAt edges w i at → e ≡ get_or edges i e → IsAlong e at to →
-    (s : Point × Point) → step_count s (flat_map steps_of_ring w.rings) + (step_count s (steps_of_path w.path ++ step_between at to) + step_count s (map ends_of (unwalked edges (set w.walked i true)))) ≡ step_count s (map ends_of edges)
+tally_along : (edges : List Edge) (spokes : List Spoke) (w : Walk) (start at to : Point) (i : ℕ) (e : Edge) → IsUnderway edges spokes w start at → IsOpenAt edges w i at → e ≡ get_or edges i e → IsAlong e at to →
+    (s : Point × Point) → times s (flat_map steps_of_ring w.rings) + (times s (steps_of_path w.path ++ step_between at to) + times s (map ends_of (edges_left edges (set w.walked i true)))) ≡ times s (map ends_of edges)
 tally_along edges spokes w start at to i e u o is a s =
     let f : Edge → Bool = λ g. is_same_step s (ends_of g) in
     let one = count-walked f edges w.walked i e o.end.within (o.left true) in
     let same : bit (f (get_or edges i e)) ≡ bit (f e) = ap (λ (g : Edge). bit (f g)) (sym is) in
-    let step : step_count s (step_between at to) ≡ bit (f e) = ap (step_count s) a.step ∙ count_step s (ends_of e) in
-    omega (arith, u.tally s, count_ends s (unwalked edges w.walked), count_ends s (unwalked edges (set w.walked i true)), count-steps s (steps_of_path w.path) (step_between at to))
+    let step : times s (step_between at to) ≡ bit (f e) = ap (times s) a.step ∙ count_step s (ends_of e) in
+    omega (arith, u.tally s, count_ends s (edges_left edges w.walked), count_ends s (edges_left edges (set w.walked i true)), count-steps s (steps_of_path w.path) (step_between at to))
 
-even_along : (edges : List Edge) (spokes : List Spoke) (w : Course) (start at to : Point) (i : ℕ) (e : Edge) → IsUnderway edges spokes w start at → IsOpenAt edges w i at → e ≡ get_or edges i e → IsAlong e at to →
-    (p : Point) → (count_by (λ e. is_end_of e p) (unwalked edges (set w.walked i true)) + (once start p + once to p)) % 2 ≡ 0
+even_along : (edges : List Edge) (spokes : List Spoke) (w : Walk) (start at to : Point) (i : ℕ) (e : Edge) → IsUnderway edges spokes w start at → IsOpenAt edges w i at → e ≡ get_or edges i e → IsAlong e at to →
+    (p : Point) → (count_by (λ e. is_end_of e p) (edges_left edges (set w.walked i true)) + (once start p + once to p)) % 2 ≡ 0
 even_along edges spokes w start at to i e u o is a p =
     let f : Edge → Bool = λ g. is_end_of g p in
     let one = count-walked f edges w.walked i e o.end.within (o.left true) in
@@ -110,7 +109,7 @@ even_along edges spokes w start at to i e u o is a p =
     omega (arith, u.even p, a.ends p)
 
 -- a path does not go back along the edge on which it came
-no_return : (edges : List Edge) (spokes : List Spoke) (w : Course) (start at to : Point) (i : ℕ) (e : Edge) → IsRisingEdges edges → IsUnderway edges spokes w start at → IsOpenAt edges w i at → e ≡ get_or edges i e → IsAlong e at to →
+no_return : (edges : List Edge) (spokes : List Spoke) (w : Walk) (start at to : Point) (i : ℕ) (e : Edge) → IsRisingEdges edges → IsUnderway edges spokes w start at → IsOpenAt edges w i at → e ≡ get_or edges i e → IsAlong e at to →
     (k : ℕ) → k + 1 < length w.path → get_or w.path k to ≡ to → get_or w.path (k + 1) to ≡ at → ⊥
 no_return edges spokes w start at to i e r u o is a k l p q =
     let s : Point × Point = ends_of e in
@@ -118,13 +117,13 @@ no_return edges spokes w start at to i e r u o is a k l p q =
     let f : Edge → Bool = λ g. is_same_step s (ends_of g) in
     let one = count-walked f edges w.walked i e o.end.within (o.left true) in
     let same : bit (f (get_or edges i e)) ≡ bit (f e) = ap (λ (g : Edge). bit (f g)) (sym is) in
-    let most : step_count s (map ends_of edges) ≤ 1 = omega (arith, count_ends s edges, occurs_once e edges r) in
-    let there : step_count s (step_between (get_or w.path k to) (get_or w.path (k + 1) to)) ≡ 1 = ap (λ (x : Point). step_count s (step_between x (get_or w.path (k + 1) to))) p ∙ ap (λ (x : Point). step_count s (step_between to x)) q ∙ ap (step_count s) a.back ∙ count_step s (ends_of e) ∙ itself in
-    absurd (omega (arith, u.tally s, count_ends s (unwalked edges w.walked), step_of_path s k w.path to l))
+    let most : times s (map ends_of edges) ≤ 1 = omega (arith, count_ends s edges, occurs_once e edges r) in
+    let there : times s (step_between (get_or w.path k to) (get_or w.path (k + 1) to)) ≡ 1 = ap (λ (x : Point). times s (step_between x (get_or w.path (k + 1) to))) p ∙ ap (λ (x : Point). times s (step_between to x)) q ∙ ap (times s) a.back ∙ count_step s (ends_of e) ∙ itself in
+    absurd (omega (arith, u.tally s, count_ends s (edges_left edges w.walked), step_of_path s k w.path to l))
 
 -- ---- the path goes on
 -- an edge that is not walked is taken, to the point of that number
-pub record IsStepping (edges : List Edge) (spokes : List Spoke) (w : Course) (start at to : Point) (n i : ℕ) (e : Edge) : Type 0 where
+pub record IsStepping (edges : List Edge) (spokes : List Spoke) (w : Walk) (start at to : Point) (n i : ℕ) (e : Edge) : Type 0 where
   pub rising : IsRisingEdges edges
   pub under : IsUnderway edges spokes w start at
   pub left : IsOpenAt edges w i at
@@ -142,14 +141,14 @@ last_place : (k n : ℕ) → k < n + 1 → (k < n) ⊎ (k ≡ n)
 last_place k n h = grind arith
 
 -- a point that is not found is not on the path
-new_point : (edges : List Edge) (spokes : List Spoke) (w : Course) (start at to : Point) (n : ℕ) → IsUnderway edges spokes w start at → IsFirstAt spokes to n → is_visited to n w ≡ false → (k : ℕ) (d : Point) → k < length w.path → get_or w.path k d ≢ to
+new_point : (edges : List Edge) (spokes : List Spoke) (w : Walk) (start at to : Point) (n : ℕ) → IsUnderway edges spokes w start at → IsFirstAt spokes to n → is_visited to n w ≡ false → (k : ℕ) (d : Point) → k < length w.path → get_or w.path k d ≢ to
 new_point edges spokes w start at to n u f v k d l e =
     let place : slice_index w.places n ≡ k = u.placed k n d l (subst (λ (p : Point). IsFirstAt spokes p n) (sym e) f) in
     let there : get_or w.path (slice_index w.places n) to ≡ to = ap (λ j. get_or w.path j to) place ∙ (get_or_default w.path k to d l ∙ e) in
     let not_there = visited_not (slice_index w.places n) (length w.path) (is_same_point (get_or w.path (slice_index w.places n) to) to) v (omega arith) in
     true≢false (sym (same_point_itself to) ∙ (ap (λ (p : Point). is_same_point p to) (sym there) ∙ not_there))
 
-gone_on : (edges : List Edge) (spokes : List Spoke) (w : Course) (start at to : Point) (n i : ℕ) (e : Edge) → IsStepping edges spokes w start at to n i e → is_visited to n w ≡ false → IsUnderway edges spokes (onto to n (along i w)) start to
+gone_on : (edges : List Edge) (spokes : List Spoke) (w : Walk) (start at to : Point) (n i : ℕ) (e : Edge) → IsStepping edges spokes w start at to n i e → is_visited to n w ≡ false → IsUnderway edges spokes (onto to n (along i w)) start to
 gone_on edges spokes w start at to n i e s v =
     let u = s.under in
     let new = new_point edges spokes w start at to n u s.number v in
@@ -158,7 +157,7 @@ gone_on edges spokes w start at to n i e s v =
       marks = length-set w.walked i true ∙ u.marks;
       room = length-set w.places n (length w.path) ∙ u.room;
       rings = u.rings;
-      tally = λ t. ap (λ ss. step_count t (flat_map steps_of_ring w.rings) + (step_count t ss + step_count t (map ends_of (unwalked edges (set w.walked i true))))) (steps-push w.path at to u.begun (u.upto at))
+      tally = λ t. ap (λ ss. times t (flat_map steps_of_ring w.rings) + (times t ss + times t (map ends_of (edges_left edges (set w.walked i true))))) (steps-push w.path at to u.begun (u.upto at))
           ∙ tally_along edges spokes w start at to i e u s.left s.is s.goes t;
       even = even_along edges spokes w start at to i e u s.left s.is s.goes;
       simple = simple-push w.path to u.simple new;
@@ -188,7 +187,7 @@ ring_length k n h f g = grind arith
 one_more : (k n : ℕ) → k + 2 ≡ n → (k + 1 < n) × (k + 1 ≡ n - 1)
 one_more k n h = (omega arith, omega arith)
 
-come_back : (edges : List Edge) (spokes : List Spoke) (w : Course) (start at to : Point) (n i : ℕ) (e : Edge) → IsStepping edges spokes w start at to n i e → (k : ℕ) → k < length w.path → get_or w.path k to ≡ to → IsRing (drop k w.path)
+come_back : (edges : List Edge) (spokes : List Spoke) (w : Walk) (start at to : Point) (n i : ℕ) (e : Edge) → IsStepping edges spokes w start at to n i e → (k : ℕ) → k < length w.path → get_or w.path k to ≡ to → IsRing (drop k w.path)
 come_back edges spokes w start at to n i e s k l q = record {
   long = rw (length-drop k w.path) (ring_length k (length w.path) l
       (λ m. s.goes.apart (sym (s.under.upto to) ∙ (ap (λ j. get_or w.path j to) (omega arith) ∙ q)))
@@ -196,7 +195,7 @@ come_back edges spokes w start at to n i e s k l q = record {
   simple = simple-drop k w.path s.under.simple;
 }
 
-cut_off : (edges : List Edge) (spokes : List Spoke) (w : Course) (start at to : Point) (n i : ℕ) (e : Edge) → IsStepping edges spokes w start at to n i e → (k : ℕ) → k < length w.path → get_or w.path k to ≡ to → IsUnderway edges spokes (cut_at k (along i w)) start to
+cut_off : (edges : List Edge) (spokes : List Spoke) (w : Walk) (start at to : Point) (n i : ℕ) (e : Edge) → IsStepping edges spokes w start at to n i e → (k : ℕ) → k < length w.path → get_or w.path k to ≡ to → IsUnderway edges spokes (cut_at k (along i w)) start to
 cut_off edges spokes w start at to n i e s k l q =
     let u = s.under in
     let long = length-take-le (k + 1) w.path (omega arith) in
@@ -210,8 +209,8 @@ cut_off edges spokes w start at to n i e s k l q =
       rings = All-push IsRing w.rings ring u.rings (come_back edges spokes w start at to n i e s k l q);
       tally = λ t.
           let before = tally_along edges spokes w start at to i e u s.left s.is s.goes t in
-          let a : step_count t (flat_map steps_of_ring (w.rings ++ ring ∷ [])) ≡ step_count t (flat_map steps_of_ring w.rings) + step_count t (steps_of_ring ring) = ap (step_count t) more ∙ count-steps t (flat_map steps_of_ring w.rings) (steps_of_ring ring) in
-          let b : step_count t (steps_of_path w.path ++ step_between at to) ≡ step_count t (steps_of_path path) + step_count t (steps_of_ring ring) = ap (step_count t) parts ∙ count-steps t (steps_of_path path) (steps_of_ring ring) in
+          let a : times t (flat_map steps_of_ring (w.rings ++ ring ∷ [])) ≡ times t (flat_map steps_of_ring w.rings) + times t (steps_of_ring ring) = ap (times t) more ∙ count-steps t (flat_map steps_of_ring w.rings) (steps_of_ring ring) in
+          let b : times t (steps_of_path w.path ++ step_between at to) ≡ times t (steps_of_path path) + times t (steps_of_ring ring) = ap (times t) parts ∙ count-steps t (steps_of_path path) (steps_of_ring ring) in
           omega arith;
       even = even_along edges spokes w start at to i e u s.left s.is s.goes;
       simple = simple-take (k + 1) w.path u.simple;
@@ -224,7 +223,7 @@ cut_off edges spokes w start at to n i e s k l q =
     }
 
 -- the walk has gone along the edge
-pub gone : (edges : List Edge) (spokes : List Spoke) (w : Course) (start at to : Point) (n i : ℕ) (e : Edge) → IsStepping edges spokes w start at to n i e → IsUnderway edges spokes (reaching to n (along i w)) start to
+pub gone : (edges : List Edge) (spokes : List Spoke) (w : Walk) (start at to : Point) (n i : ℕ) (e : Edge) → IsStepping edges spokes w start at to n i e → IsUnderway edges spokes (reaching to n (along i w)) start to
 gone edges spokes w start at to n i e s = go (is_visited to n w) refl
   where
     go : (b : Bool) → is_visited to n w ≡ b → IsUnderway edges spokes (if b then cut_at (slice_index w.places n) (along i w) else onto to n (along i w)) start to

@@ -8,10 +8,10 @@ use Rattle.plane_edge.specs.declared.point.Point.{Point}
 use Rattle.plane_edge.proofs.EqualLemmas.{points_equal}
 use Rattle.region_rings.specs.declared.spoke.Spoke.{Spoke}
 use Rattle.region_rings.specs.declared.way.Way.{Way}
-use Rattle.region_rings.specs.Courses.{Course, IsOpenAt, IsTakenFirst}
+use Rattle.region_rings.specs.Walks.{Walk, IsOpenAt, IsTakenFirst}
 use Rattle.region_rings.specs.Spokes.{spoke, AreSpokesOf, IsFirstAt}
 use Rattle.region_rings.specs.Turning.{aim, dot_of, is_met_sooner}
-use Rattle.region_rings.specs.Ways.{other_end_of, way_at, leads_from, is_taken_before}
+use Rattle.region_rings.specs.Ways.{other_end_of, way_at, is_from, is_taken_before}
 use Rattle.region_rings.proofs.ChoiceLemmas.{IsSearched, IsPast}
 use Rattle.region_rings.proofs.TurnLemmas.{nonpos-mul, below-mul, first_trans, first_self, sooner_trans, not_sooner_itself}
 
@@ -22,12 +22,12 @@ taken_trans p u v w x n h k =
     let a = aim p (other_end_of v.edge p) in
     let b = aim p (other_end_of w.edge p) in
     let c = aim p (other_end_of x.edge p) in
-    first_trans (leads_from v p) (leads_from w p) (leads_from x p) (is_met_sooner u a b) (is_met_sooner u b c) (is_met_sooner u a c) (λ i j y z. sooner_trans u a b c n y z) h k
+    first_trans (is_from v p) (is_from w p) (is_from x p) (is_met_sooner u a b) (is_met_sooner u b c) (is_met_sooner u a c) (λ i j y z. sooner_trans u a b c n y z) h k
 
 not_before_itself : (p : Point) (u : ℤ × ℤ) (w : Way) → is_taken_before p u w w ≡ false
 not_before_itself p u w =
     let a = aim p (other_end_of w.edge p) in
-    first_self (leads_from w p) (is_met_sooner u a a) (not_sooner_itself u a)
+    first_self (is_from w p) (is_met_sooner u a a) (not_sooner_itself u a)
 
 -- what does not come before a way comes before none that comes before that way
 not_before : (p : Point) (u : ℤ × ℤ) (v w x : Way) → pos 0 <ℤ dot_of u u → is_taken_before p u v x ≡ false → is_taken_before p u w x ≡ true → is_taken_before p u v w ≡ false
@@ -61,7 +61,7 @@ squares a b = elim (sign a) [
 same_place : (a b : ℤ) → a -ℤ b ≡ pos 0 → b ≡ a
 same_place a b h = omega (arith, lin)
 
-leads_on : (p q : Point) → p ≢ q → pos 0 <ℤ dot_of (aim p q) (aim p q)
+pub leads_on : (p q : Point) → p ≢ q → pos 0 <ℤ dot_of (aim p q) (aim p q)
 leads_on p q h = elim (squares (q.x -ℤ p.x) (q.y -ℤ p.y)) [
   | inl k ↦ k
   | inr k ↦ absurd (h (points_equal p q (same_place q.x p.x k.0) (same_place q.y p.y k.1)))
@@ -70,21 +70,21 @@ leads_on p q h = elim (squares (q.x -ℤ p.x) (q.y -ℤ p.y)) [
 -- ---- the search
 
 -- no edge that is not walked, of the spokes before `place`, is taken before the best
-pub record IsRanked (edges : List Edge) (spokes : List Spoke) (leftward : List Bool) (w : Course) (at : Point) (back : ℤ × ℤ) (first place : ℕ) (best : Option ℕ) : Type 0 where
+pub record IsRanked (edges : List Edge) (spokes : List Spoke) (leftward : List Bool) (w : Walk) (at : Point) (back : ℤ × ℤ) (first place : ℕ) (best : Option ℕ) : Type 0 where
   pub ranked : pos 0 <ℤ dot_of back back → (k : ℕ) (s : Spoke) (d : Way) → first ≤ k → k < place → get_or w.walked (get_or spokes k s).edge true ≡ false →
       IfSome best (λ i. is_taken_before at back (way_at edges leftward (get_or spokes k s).edge d) (way_at edges leftward i d) ≡ false)
 
 one_more : (k n : ℕ) → k < n + 1 → (k < n) ⊎ (k ≡ n)
 one_more k n h = grind arith
 
-pub ranked_none : (edges : List Edge) (spokes : List Spoke) (leftward : List Bool) (w : Course) (at : Point) (back : ℤ × ℤ) (first : ℕ) → IsRanked edges spokes leftward w at back first first None
+pub ranked_none : (edges : List Edge) (spokes : List Spoke) (leftward : List Bool) (w : Walk) (at : Point) (back : ℤ × ℤ) (first : ℕ) → IsRanked edges spokes leftward w at back first first None
 ranked_none edges spokes leftward w at back first = record { ranked = λ n k s d b c o. tt }
 
 -- the spoke at that place is the one that was read
 read : (spokes : List Spoke) (place k : ℕ) (s t : Spoke) → place < length spokes → s ≡ get_or spokes place s → k ≡ place → get_or spokes k t ≡ s
 read spokes place k s t l is e = ap (λ j. get_or spokes j t) e ∙ (get_or_default spokes place t s l ∙ sym is)
 
-pub ranked_taken : (edges : List Edge) (spokes : List Spoke) (leftward : List Bool) (w : Course) (at : Point) (back : ℤ × ℤ) (first place : ℕ) (s : Spoke) (best : Option ℕ) → place < length spokes → s ≡ get_or spokes place s → IsSearched edges spokes w at first place best → IfSome best (λ i. (d : Way) → true ≡ is_taken_before at back (way_at edges leftward s.edge d) (way_at edges leftward i d)) → IsRanked edges spokes leftward w at back first place best → IsRanked edges spokes leftward w at back first (place + 1) (Some s.edge)
+pub ranked_taken : (edges : List Edge) (spokes : List Spoke) (leftward : List Bool) (w : Walk) (at : Point) (back : ℤ × ℤ) (first place : ℕ) (s : Spoke) (best : Option ℕ) → place < length spokes → s ≡ get_or spokes place s → IsSearched edges spokes w at first place best → IfSome best (λ i. (d : Way) → true ≡ is_taken_before at back (way_at edges leftward s.edge d) (way_at edges leftward i d)) → IsRanked edges spokes leftward w at back first place best → IsRanked edges spokes leftward w at back first (place + 1) (Some s.edge)
 ranked_taken edges spokes leftward w at back first place s best l is search' better h = record {
   ranked = λ n k t d b c o. elim (one_more k place c) [
     | inl m ↦ earlier best n k t d b m o search' better h
@@ -96,7 +96,7 @@ ranked_taken edges spokes leftward w at back first place s best l is search' bet
     earlier None n k t d b m o g f r = absurd (true≢false (sym (g.none k t true b m) ∙ o))
     earlier (Some i) n k t d b m o g f r = not_before at back (way_at edges leftward (get_or spokes k t).edge d) (way_at edges leftward s.edge d) (way_at edges leftward i d) n (r.ranked n k t d b m o) (sym (f d))
 
-pub ranked_kept : (edges : List Edge) (spokes : List Spoke) (leftward : List Bool) (w : Course) (at : Point) (back : ℤ × ℤ) (first place : ℕ) (s : Spoke) (best : Option ℕ) → place < length spokes → s ≡ get_or spokes place s → IfSome best (λ i. (d : Way) → false ≡ is_taken_before at back (way_at edges leftward s.edge d) (way_at edges leftward i d)) → IsRanked edges spokes leftward w at back first place best → IsRanked edges spokes leftward w at back first (place + 1) best
+pub ranked_kept : (edges : List Edge) (spokes : List Spoke) (leftward : List Bool) (w : Walk) (at : Point) (back : ℤ × ℤ) (first place : ℕ) (s : Spoke) (best : Option ℕ) → place < length spokes → s ≡ get_or spokes place s → IfSome best (λ i. (d : Way) → false ≡ is_taken_before at back (way_at edges leftward s.edge d) (way_at edges leftward i d)) → IsRanked edges spokes leftward w at back first place best → IsRanked edges spokes leftward w at back first (place + 1) best
 ranked_kept edges spokes leftward w at back first place s None l is worse h = record { ranked = λ n k t d b c o. tt }
 ranked_kept edges spokes leftward w at back first place s (Some i) l is worse h = record {
   ranked = λ n k t d b c o. elim (one_more k place c) [
@@ -105,7 +105,7 @@ ranked_kept edges spokes leftward w at back first place s (Some i) l is worse h 
   ];
 }
 
-pub ranked_walked : (edges : List Edge) (spokes : List Spoke) (leftward : List Bool) (w : Course) (at : Point) (back : ℤ × ℤ) (first place : ℕ) (s : Spoke) (best : Option ℕ) → place < length spokes → s ≡ get_or spokes place s → get_or w.walked s.edge true ≡ true → IsRanked edges spokes leftward w at back first place best → IsRanked edges spokes leftward w at back first (place + 1) best
+pub ranked_walked : (edges : List Edge) (spokes : List Spoke) (leftward : List Bool) (w : Walk) (at : Point) (back : ℤ × ℤ) (first place : ℕ) (s : Spoke) (best : Option ℕ) → place < length spokes → s ≡ get_or spokes place s → get_or w.walked s.edge true ≡ true → IsRanked edges spokes leftward w at back first place best → IsRanked edges spokes leftward w at back first (place + 1) best
 ranked_walked edges spokes leftward w at back first place s best l is done h = record {
   ranked = λ n k t d b c o. elim (one_more k place c) [
     | inl m ↦ h.ranked n k t d b m o
@@ -116,7 +116,7 @@ ranked_walked edges spokes leftward w at back first place s best l is done h = r
 in_two : (i m : ℕ) → (m < i) ⊎ (i ≤ m)
 in_two i m = grind arith
 
-pub taken_first : (edges : List Edge) (spokes : List Spoke) (leftward : List Bool) (w : Course) (at from : Point) (back : ℤ × ℤ) (first place : ℕ) (best : Option ℕ) → AreSpokesOf edges spokes → IsFirstAt spokes at first → IsPast spokes at place → back ≡ aim at from → IsRanked edges spokes leftward w at back first place best → IfSome best (λ i. at ≢ from → IsTakenFirst edges leftward w at (aim at from) i)
+pub taken_first : (edges : List Edge) (spokes : List Spoke) (leftward : List Bool) (w : Walk) (at from : Point) (back : ℤ × ℤ) (first place : ℕ) (best : Option ℕ) → AreSpokesOf edges spokes → IsFirstAt spokes at first → IsPast spokes at place → back ≡ aim at from → IsRanked edges spokes leftward w at back first place best → IfSome best (λ i. at ≢ from → IsTakenFirst edges leftward w at (aim at from) i)
 taken_first edges spokes leftward w at from back first place None a f p e h = tt
 taken_first edges spokes leftward w at from back first place (Some i) a f p e h = λ apart k d o. (
     let c = (a.exact k at).1 o.end in

@@ -6,14 +6,14 @@ use Rattle.plane_edge.specs.declared.edge.Edge.{Edge}
 use Rattle.plane_edge.specs.declared.point.Point.{Point}
 use Rattle.plane_edge.specs.Edges.{is_same_point, HaveEvenEnds}
 use Rattle.plane_edge.specs.Line.{is_end_of}
-use Rattle.plane_edge.specs.Rings.{ends_of, steps_of_ring}
+use Rattle.plane_edge.specs.Rings.{ends_of, steps_of_ring, IsRing, times}
 use Rattle.plane_edge.proofs.OrderLemmas.{same_points_equal, same_point_itself}
 use Rattle.region_rings.specs.declared.spoke.Spoke.{Spoke}
-use Rattle.region_rings.specs.RegionRings.{IsRing, step_count, AreRingsOf}
+use Rattle.region_rings.specs.RegionRings.{AreRingsOf}
 use Rattle.region_rings.specs.Spokes.{IsFirstAt}
-use Rattle.region_rings.specs.Courses.{Course, beginning, unwalked, IsNoneOpenAt, IsAtRest}
+use Rattle.region_rings.specs.Walks.{Walk, beginning, edges_left, IsNoneOpenAt, IsAtRest}
 use Rattle.region_rings.proofs.Underway.{steps_of_path, once, IsUnderway}
-use Rattle.region_rings.proofs.MarkLemmas.{none_left, unwalked-all, unwalked-none}
+use Rattle.region_rings.proofs.MarkLemmas.{none_left, edges_left-all, edges_left-none}
 use Rattle.region_rings.proofs.SpokeLemmas.{one_number}
 
 -- ---- the first step
@@ -21,13 +21,13 @@ twice_even : (n m : ℕ) → n % 2 ≡ 0 → (n + (m + m)) % 2 ≡ 0
 twice_even n m h = omega arith
 
 -- a walk that begins at a point
-pub begun : (edges : List Edge) (spokes : List Spoke) (w : Course) (at : Point) (n : ℕ) → IsAtRest edges spokes w → IsFirstAt spokes at n → IsUnderway edges spokes (beginning at n w) at at
+pub begun : (edges : List Edge) (spokes : List Spoke) (w : Walk) (at : Point) (n : ℕ) → IsAtRest edges spokes w → IsFirstAt spokes at n → IsUnderway edges spokes (beginning at n w) at at
 begun edges spokes w at n r f = record {
   marks = r.marks;
   room = length-set w.places n 0 ∙ r.room;
   rings = r.rings;
-  tally = λ s. ap (λ m. step_count s (flat_map steps_of_ring w.rings) + m) (zero-add (step_count s (map ends_of (unwalked edges w.walked)))) ∙ r.tally s;
-  even = λ p. twice_even (count_by (λ e. is_end_of e p) (unwalked edges w.walked)) (once at p) (r.even p);
+  tally = λ s. ap (λ m. times s (flat_map steps_of_ring w.rings) + m) (zero-add (times s (map ends_of (edges_left edges w.walked)))) ∙ r.tally s;
+  even = λ p. twice_even (count_by (λ e. is_end_of e p) (edges_left edges w.walked)) (once at p) (r.even p);
   simple = λ i j d l m. absurd (omega arith);
   begun = omega arith;
   from = λ d. refl;
@@ -56,9 +56,9 @@ odd_once true h = refl
 odd_once false h = absurd (omega arith)
 
 -- where no edge is left at the point of a walk, it is back at its first point
-pub back_at_start : (edges : List Edge) (spokes : List Spoke) (w : Course) (start at : Point) → IsUnderway edges spokes w start at → IsNoneOpenAt edges w at → start ≡ at
+pub back_at_start : (edges : List Edge) (spokes : List Spoke) (w : Walk) (start at : Point) → IsUnderway edges spokes w start at → IsNoneOpenAt edges w at → start ≡ at
 back_at_start edges spokes w start at u h =
-    let none : count_by (λ e. is_end_of e at) (unwalked edges w.walked) ≡ 0 = none_left at edges w.walked u.marks (λ i d l t. h i true (record { within = l; end = λ c. ap (λ (e : Edge). is_end_of e at) (get_or_default edges i c d l) ∙ t })) in
+    let none : count_by (λ e. is_end_of e at) (edges_left edges w.walked) ≡ 0 = none_left at edges w.walked u.marks (λ i d l t. h i true (record { within = l; end = λ c. ap (λ (e : Edge). is_end_of e at) (get_or_default edges i c d l) ∙ t })) in
     let here : once at at ≡ 1 = ap (λ b. if b then 1 else 0) (same_point_itself at) in
     let all = u.even at in
     same_points_equal start at (odd_once (is_same_point start at) (omega arith))
@@ -66,7 +66,7 @@ back_at_start edges spokes w start at u h =
 some_more : (n : ℕ) → 0 < n → (n ≡ 1) ⊎ (1 < n)
 some_more n h = grind arith
 
-one_point_left : (edges : List Edge) (spokes : List Spoke) (w : Course) (start at : Point) → IsUnderway edges spokes w start at → start ≡ at → length w.path ≡ 1
+one_point_left : (edges : List Edge) (spokes : List Spoke) (w : Walk) (start at : Point) → IsUnderway edges spokes w start at → start ≡ at → length w.path ≡ 1
 one_point_left edges spokes w start at u e = go (some_more (length w.path) u.begun)
   where
     go : (length w.path ≡ 1) ⊎ (1 < length w.path) → length w.path ≡ 1
@@ -78,7 +78,7 @@ one_point_left edges spokes w start at u e = go (some_more (length w.path) u.beg
 even_rest : (n m : ℕ) → (n + (m + m)) % 2 ≡ 0 → n % 2 ≡ 0
 even_rest n m h = omega arith
 
-pub at_rest : (edges : List Edge) (spokes : List Spoke) (w : Course) (start at : Point) → IsUnderway edges spokes w start at → IsNoneOpenAt edges w at → IsAtRest edges spokes w
+pub at_rest : (edges : List Edge) (spokes : List Spoke) (w : Walk) (start at : Point) → IsUnderway edges spokes w start at → IsNoneOpenAt edges w at → IsAtRest edges spokes w
 at_rest edges spokes w start at u h =
     let back = back_at_start edges spokes w start at u h in
     let none = steps-one w.path (one_point_left edges spokes w start at u back) in
@@ -87,10 +87,10 @@ at_rest edges spokes w start at u h =
       room = u.room;
       rings = u.rings;
       tally = λ s.
-          let zero : step_count s (steps_of_path w.path) ≡ 0 = ap (step_count s) none in
+          let zero : times s (steps_of_path w.path) ≡ 0 = ap (times s) none in
           let all = u.tally s in
           omega arith;
-      even = λ p. even_rest (count_by (λ e. is_end_of e p) (unwalked edges w.walked)) (once at p) (subst (λ (q : Point). (count_by (λ e. is_end_of e p) (unwalked edges w.walked) + (once q p + once at p)) % 2 ≡ 0) back (u.even p));
+      even = λ p. even_rest (count_by (λ e. is_end_of e p) (edges_left edges w.walked)) (once at p) (subst (λ (q : Point). (count_by (λ e. is_end_of e p) (edges_left edges w.walked) + (once q p + once at p)) % 2 ≡ 0) back (u.even p));
     }
 
 -- ---- all walks
@@ -99,24 +99,24 @@ rest_before edges spokes h = record {
   marks = length-replicate (length edges) false;
   room = length-replicate (length spokes) 0;
   rings = All-nil IsRing;
-  tally = λ s. zero-add (step_count s (map ends_of (unwalked edges (replicate (length edges) false)))) ∙ ap (λ (es : List Edge). step_count s (map ends_of es)) (unwalked-none edges);
-  even = λ p. ap (λ (es : List Edge). count_by (λ e. is_end_of e p) es % 2) (unwalked-none edges) ∙ h p;
+  tally = λ s. zero-add (times s (map ends_of (edges_left edges (replicate (length edges) false)))) ∙ ap (λ (es : List Edge). times s (map ends_of es)) (edges_left-none edges);
+  even = λ p. ap (λ (es : List Edge). count_by (λ e. is_end_of e p) es % 2) (edges_left-none edges) ∙ h p;
 }
 
 -- before the first walk
-pub rest_begun : (edges : List Edge) (spokes : List Spoke) (w : Course) (n : ℕ) → HaveEvenEnds edges → n ≡ length spokes → w ≡ record { walked = replicate (length edges) false; path = []; places = replicate n 0; rings = [] } → IsAtRest edges spokes w
+pub rest_begun : (edges : List Edge) (spokes : List Spoke) (w : Walk) (n : ℕ) → HaveEvenEnds edges → n ≡ length spokes → w ≡ record { walked = replicate (length edges) false; path = []; places = replicate n 0; rings = [] } → IsAtRest edges spokes w
 rest_begun edges spokes w n h e q =
     let r : w ≡ record { walked = replicate (length edges) false; path = []; places = replicate (length spokes) 0; rings = [] } = q ∙ ap (λ m. record { walked = replicate (length edges) false; path = []; places = replicate m 0; rings = [] }) e in
-    subst (λ (v : Course). IsAtRest edges spokes v) (sym r) (rest_before edges spokes h)
+    subst (λ (v : Walk). IsAtRest edges spokes v) (sym r) (rest_before edges spokes h)
 
 -- after the last walk
-pub all_drawn : (edges : List Edge) (spokes : List Spoke) (w : Course) → IsAtRest edges spokes w → ((i : ℕ) → i < length edges → get_or w.walked i true ≡ true) → AreRingsOf edges w.rings
+pub all_drawn : (edges : List Edge) (spokes : List Spoke) (w : Walk) → IsAtRest edges spokes w → ((i : ℕ) → i < length edges → get_or w.walked i true ≡ true) → AreRingsOf edges w.rings
 all_drawn edges spokes w r h =
-    let none = unwalked-all edges w.walked r.marks h in
+    let none = edges_left-all edges w.walked r.marks h in
     record {
       each = r.rings;
       exact = λ s.
-          let zero : step_count s (map ends_of (unwalked edges w.walked)) ≡ 0 = ap (λ (es : List Edge). step_count s (map ends_of es)) none in
+          let zero : times s (map ends_of (edges_left edges w.walked)) ≡ 0 = ap (λ (es : List Edge). times s (map ends_of es)) none in
           let all = r.tally s in
           omega arith;
     }

@@ -7,7 +7,8 @@ use Rattle.plane_edge.specs.declared.edge.Edge.{Edge}
 use Rattle.plane_edge.specs.declared.spot.Spot.{Spot}
 use Rattle.edge_rows.specs.Beside.{AreCrossedAlike}
 use Rattle.edge_rows.proofs.CrossLemmas.{inside_alike}
-use Rattle.region_rings.specs.Sides.{is_level, IsLeftward, AreSides}
+use Rattle.region_rings.specs.Sides.{AreSides}
+use Rattle.edge_sides.specs.Sides.{is_level, IsLeftward}
 
 pub level_side : (es : List Edge) (e : Edge) (b : Bool) (s : Spot) → s ≡ middle_of e → is_level e ≡ true → IsTrue b ↔ IsInside es s → IsTrue b ↔ IsLeftward es e
 level_side es e b s q l h = (

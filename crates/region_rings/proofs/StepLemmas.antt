@@ -7,11 +7,10 @@ use Rattle.plane_edge.specs.declared.edge.Edge.{Edge}
 use Rattle.plane_edge.specs.declared.point.Point.{Point}
 use Rattle.plane_edge.specs.Edges.{is_same_point}
 use Rattle.plane_edge.specs.Order.{is_below}
-use Rattle.plane_edge.specs.Rings.{ends_of, step_between, path_from, steps_of_ring}
+use Rattle.plane_edge.specs.Rings.{ends_of, step_between, path_from, steps_of_ring, times, is_same_step}
 use Rattle.plane_edge.proofs.EndLemmas.{not_both}
 use Rattle.plane_edge.proofs.EvenLists.{count-append}
 use Rattle.plane_edge.proofs.OrderLemmas.{point_order, point_order_total, below_is_less, same_point_itself}
-use Rattle.region_rings.specs.RegionRings.{step_count, is_same_step}
 use Rattle.region_rings.proofs.Underway.{steps_of_path}
 
 -- ---- the order of points
@@ -79,14 +78,14 @@ steps-cut k xs at p h l q =
     ∙ ap (λ ss. steps_of_path (take (k + 1) xs) ++ ss) (sym ring)
 
 -- ---- counts
-pub count-steps : (s : Point × Point) (xs ys : List (Point × Point)) → step_count s (xs ++ ys) ≡ step_count s xs + step_count s ys
+pub count-steps : (s : Point × Point) (xs ys : List (Point × Point)) → times s (xs ++ ys) ≡ times s xs + times s ys
 count-steps s xs ys = count-append (λ t. is_same_step s t) xs ys
 
 -- a step of a path counts
-pub step_of_path : (s : Point × Point) (k : ℕ) (xs : List Point) (d : Point) → k + 1 < length xs → step_count s (step_between (get_or xs k d) (get_or xs (k + 1) d)) ≤ step_count s (steps_of_path xs)
+pub step_of_path : (s : Point × Point) (k : ℕ) (xs : List Point) (d : Point) → k + 1 < length xs → times s (step_between (get_or xs k d) (get_or xs (k + 1) d)) ≤ times s (steps_of_path xs)
 step_of_path s k xs d h = go k xs h (add-one k)
   where
-    at : (k : ℕ) (xs : List Point) → suc k < length xs → step_count s (step_between (get_or xs k d) (get_or xs (suc k) d)) ≤ step_count s (steps_of_path xs)
+    at : (k : ℕ) (xs : List Point) → suc k < length xs → times s (step_between (get_or xs k d) (get_or xs (suc k) d)) ≤ times s (steps_of_path xs)
     at zero [] h = absurd (omega arith)
     at zero (a ∷ []) h = absurd (omega arith)
     at zero (a ∷ b ∷ cs) h = omega (arith, count-steps s (step_between a b) (path_from b cs))
@@ -94,7 +93,7 @@ step_of_path s k xs d h = go k xs h (add-one k)
     at (suc k) (a ∷ []) h = absurd (omega arith)
     at (suc k) (a ∷ b ∷ cs) h = omega (arith, count-steps s (step_between a b) (path_from b cs), at k (b ∷ cs) (omega arith))
 
-    go : (k : ℕ) (xs : List Point) → k + 1 < length xs → k + 1 ≡ suc k → step_count s (step_between (get_or xs k d) (get_or xs (k + 1) d)) ≤ step_count s (steps_of_path xs)
+    go : (k : ℕ) (xs : List Point) → k + 1 < length xs → k + 1 ≡ suc k → times s (step_between (get_or xs k d) (get_or xs (k + 1) d)) ≤ times s (steps_of_path xs)
     go k xs h e = rw e (at k xs (omega arith))
 
 -- ---- the step along an edge

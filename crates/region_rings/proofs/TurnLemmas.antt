@@ -21,7 +21,7 @@ nonpos-mul a b h k = subst (λ z. pos 0 ≤ℤ z) (both_turned a b) (nonneg-mul 
 pub below-mul : (a b : ℤ) → a <ℤ pos 0 → b <ℤ pos 0 → pos 0 <ℤ (a *ℤ b)
 below-mul a b h k = subst (λ z. pos 0 <ℤ z) (both_turned a b) (pos-mul (pos 0 -ℤ a) (pos 0 -ℤ b) (omega (arith, lin)) (omega (arith, lin)))
 
-below-cancel : (b z : ℤ) → b <ℤ pos 0 → pos 0 <ℤ (b *ℤ z) → z <ℤ pos 0
+pub below-cancel : (b z : ℤ) → b <ℤ pos 0 → pos 0 <ℤ (b *ℤ z) → z <ℤ pos 0
 below-cancel b z h k = elim (sign z) [
   | below n ↦ n
   | none e ↦ let w : b *ℤ z ≡ pos 0 = ap (λ x. b *ℤ x) e ∙ *ℤ-zero b in absurd (omega (arith, lin))
@@ -31,7 +31,7 @@ below-cancel b z h k = elim (sign z) [
       absurd (omega (arith, lin))
 ]
 
-zero_times : (a b : ℤ) → a ≡ pos 0 → a *ℤ b ≡ pos 0
+pub zero_times : (a b : ℤ) → a ≡ pos 0 → a *ℤ b ≡ pos 0
 zero_times a b e = ap (λ x. x *ℤ b) e ∙ zero-*ℤ b
 
 -- ---- directions in one half
@@ -80,13 +80,13 @@ other_half_trans A B C p q r n x y z e f g hn a b c hx hy =
 
 -- ---- four directions
 
-crosses_of_four : (u a b c : ℤ × ℤ) → cross_of u b *ℤ cross_of a c ≡ cross_of u a *ℤ cross_of b c +ℤ cross_of u c *ℤ cross_of a b
+pub crosses_of_four : (u a b c : ℤ × ℤ) → cross_of u b *ℤ cross_of a c ≡ cross_of u a *ℤ cross_of b c +ℤ cross_of u c *ℤ cross_of a b
 crosses_of_four u a b c =
     ring (u.0 ∷ u.1 ∷ a.0 ∷ a.1 ∷ b.0 ∷ b.1 ∷ c.0 ∷ c.1 ∷ [])
     ((var 0 ⊗ var 5 ⊖ var 1 ⊗ var 4) ⊗ (var 2 ⊗ var 7 ⊖ var 3 ⊗ var 6))
     ((var 0 ⊗ var 3 ⊖ var 1 ⊗ var 2) ⊗ (var 4 ⊗ var 7 ⊖ var 5 ⊗ var 6) ⊕ (var 0 ⊗ var 7 ⊖ var 1 ⊗ var 6) ⊗ (var 2 ⊗ var 5 ⊖ var 3 ⊗ var 4)) refl
 
-crosses_and_dots : (u a b : ℤ × ℤ) → dot_of u u *ℤ cross_of a b ≡ dot_of u a *ℤ cross_of u b -ℤ cross_of u a *ℤ dot_of u b
+pub crosses_and_dots : (u a b : ℤ × ℤ) → dot_of u u *ℤ cross_of a b ≡ dot_of u a *ℤ cross_of u b -ℤ cross_of u a *ℤ dot_of u b
 crosses_and_dots u a b =
     ring (u.0 ∷ u.1 ∷ a.0 ∷ a.1 ∷ b.0 ∷ b.1 ∷ [])
     ((var 0 ⊗ var 0 ⊕ var 1 ⊗ var 1) ⊗ (var 2 ⊗ var 5 ⊖ var 3 ⊗ var 4))

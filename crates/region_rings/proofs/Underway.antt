@@ -2,12 +2,11 @@
 use Rattle.std.proofs.Common.{◌≡◌, ℕ, ◌+◌, ◌-◌, ◌%◌, ◌<◌, if◌then◌else◌, List, [], ◌∷◌, map, flat_map, length, count_by, All, slice_index, slice_index_or}
 use Rattle.plane_edge.specs.Edges.{is_same_point}
 use Rattle.plane_edge.specs.Line.{is_end_of}
-use Rattle.plane_edge.specs.Rings.{ends_of, path_from, steps_of_ring}
+use Rattle.plane_edge.specs.Rings.{ends_of, path_from, steps_of_ring, IsRing, times, VisitsNoneTwice}
 use Rattle.plane_edge.specs.declared.edge.Edge.{Edge}
 use Rattle.plane_edge.specs.declared.point.Point.{Point}
 use Rattle.region_rings.specs.declared.spoke.Spoke.{Spoke}
-use Rattle.region_rings.specs.Courses.{Course, unwalked}
-use Rattle.region_rings.specs.RegionRings.{VisitsNoneTwice, IsRing, step_count}
+use Rattle.region_rings.specs.Walks.{Walk, edges_left}
 use Rattle.region_rings.specs.Spokes.{IsFirstAt}
 
 -- the steps from each point of the path to the next
@@ -21,12 +20,12 @@ once p q = (if is_same_point p q then 1 else 0)
 
 -- a walk from `start` that stands at `at`. Each edge is a step of a ring, a step of the path or not walked, and only one of these; each point is an end of an even number of
 -- the edges not walked, where `start` and `at` count one more each
-pub record IsUnderway (edges : List Edge) (spokes : List Spoke) (w : Course) (start at : Point) : Type 0 where
+pub record IsUnderway (edges : List Edge) (spokes : List Spoke) (w : Walk) (start at : Point) : Type 0 where
   pub marks : length w.walked ≡ length edges
   pub room : length w.places ≡ length spokes
   pub rings : All IsRing w.rings
-  pub tally : (s : Point × Point) → step_count s (flat_map steps_of_ring w.rings) + (step_count s (steps_of_path w.path) + step_count s (map ends_of (unwalked edges w.walked))) ≡ step_count s (map ends_of edges)
-  pub even : (p : Point) → (count_by (λ e. is_end_of e p) (unwalked edges w.walked) + (once start p + once at p)) % 2 ≡ 0
+  pub tally : (s : Point × Point) → times s (flat_map steps_of_ring w.rings) + (times s (steps_of_path w.path) + times s (map ends_of (edges_left edges w.walked))) ≡ times s (map ends_of edges)
+  pub even : (p : Point) → (count_by (λ e. is_end_of e p) (edges_left edges w.walked) + (once start p + once at p)) % 2 ≡ 0
   pub simple : VisitsNoneTwice w.path
   pub begun : 0 < length w.path
   pub from : (d : Point) → slice_index_or w.path 0 d ≡ start

@@ -3,4 +3,6 @@ pub mod Sides
 pub mod Spokes
 pub mod Turning
 pub mod Ways
-pub mod Courses
+pub mod Exits
+pub mod Walks
+pub mod LeftWalks

@@ -1,28 +1,19 @@
 -- The rings of a region.
-use Rattle.std.specs.Prelude.{◌≡◌, ◌≢◌, ℕ, ◌≤◌, Bool, ◌&&◌, List, map, flat_map, length, count_by, All, AllPairs}
-use Rattle.plane_edge.specs.Edges.{is_same_point}
-use Rattle.plane_edge.specs.Rings.{ends_of, steps_of_ring}
+use Rattle.std.specs.Prelude.{◌≡◌, ℕ, ◌+◌, ◌<◌, ◌%◌, List, length, map, flat_map, All, Contains, slice_index_or}
+use Rattle.plane_edge.specs.Rings.{ends_of, steps_of_ring, times, IsRing}
 use Rattle.plane_edge.specs.declared.edge.Edge.{Edge}
 use Rattle.plane_edge.specs.declared.point.Point.{Point}
-
--- no point stands in the list twice
-abbrev pub VisitsNoneTwice : List Point → Type 0
-VisitsNoneTwice points = AllPairs (λ p q. p ≢ q) points
-
--- three points or more, and none of them twice
-pub record IsRing (ring : List Point) : Type 0 where
-  pub long : 3 ≤ length ring
-  pub simple : VisitsNoneTwice ring
-
--- the steps have the same two points
-abbrev pub is_same_step : Point × Point → Point × Point → Bool
-is_same_step s t = is_same_point s.0 t.0 && is_same_point s.1 t.1
-
--- how often the step is among the steps
-abbrev pub step_count : Point × Point → List (Point × Point) → ℕ
-step_count s steps = count_by (λ t. is_same_step s t) steps
+use Rattle.edge_sides.specs.Sides.{start_of, finish_of}
 
 -- each list is a ring, and together they step along each of the edges exactly once, and along no other edge
 pub record AreRingsOf (edges : List Edge) (rings : List (List Point)) : Type 0 where
   pub each : All IsRing rings
-  pub exact : (s : Point × Point) → step_count s (flat_map steps_of_ring rings) ≡ step_count s (map ends_of edges)
+  pub exact : (s : Point × Point) → times s (flat_map steps_of_ring rings) ≡ times s (map ends_of edges)
+
+-- one of the edges goes from the one point to the other, with the region on its left
+abbrev pub IsLeftStep : List Edge → Point → Point → Type 0
+IsLeftStep edges p q = (e : Edge) × (Contains edges e × ((start_of edges e ≡ p) × (finish_of edges e ≡ q)))
+
+-- so goes one from each point of the ring to the next, the first point following the last
+abbrev pub IsLeftRing : List Edge → List Point → Type 0
+IsLeftRing edges ring = (k : ℕ) (d : Point) → k < length ring → IsLeftStep edges (slice_index_or ring k d) (slice_index_or ring ((k + 1) % length ring) d)

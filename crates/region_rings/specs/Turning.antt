@@ -1,5 +1,5 @@
 -- Directions, and which of two is met first in a clockwise turn.
-use Rattle.std.specs.Prelude.{Bool, true, false, ◌&&◌, ◌||◌, ℤ, pos, ◌+ℤ◌, ◌-ℤ◌, ◌*ℤ◌, int_lt}
+use Rattle.std.specs.Prelude.{Bool, true, false, ◌&&◌, ◌||◌, ℤ, pos, ◌+ℤ◌, ◌-ℤ◌, ◌*ℤ◌, ◌<ℤ◌, int_lt}
 use Rattle.std.specs.Ordering.{int_eq}
 use Rattle.plane_edge.specs.declared.point.Point.{Point}
 use Rattle.region_rings.specs.declared.heading.Heading.{Heading}
@@ -19,6 +19,10 @@ cross_of a b = a.0 *ℤ b.1 -ℤ a.1 *ℤ b.0
 -- above 0 where a and b are less than a quarter turn apart
 abbrev pub dot_of : ℤ × ℤ → ℤ × ℤ → ℤ
 dot_of a b = a.0 *ℤ b.0 +ℤ a.1 *ℤ b.1
+
+-- the direction leads somewhere
+abbrev pub IsSomewhere : ℤ × ℤ → Type 0
+IsSomewhere a = pos 0 <ℤ dot_of a a
 
 -- a turn to the right, or straight back
 abbrev pub is_half_turn_of : ℤ → ℤ → Bool

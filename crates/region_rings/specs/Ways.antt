@@ -19,10 +19,10 @@ abbrev pub tail_of : Way → Point
 tail_of w = (if w.is_leftward then w.edge.low else w.edge.high)
 
 -- the way begins at the point
-abbrev pub leads_from : Way → Point → Bool
-leads_from w p = is_same_point (tail_of w) p
+abbrev pub is_from : Way → Point → Bool
+is_from w p = is_same_point (tail_of w) p
 
 -- at the point the first way is taken before the second: one that leads away before one that does not, of two alike the one that a clockwise turn from `back` meets first
 abbrev pub is_taken_before : Point → ℤ × ℤ → Way → Way → Bool
 is_taken_before p back v w =
-    is_first_by (leads_from v p) (leads_from w p) (is_met_sooner back (aim p (other_end_of v.edge p)) (aim p (other_end_of w.edge p)))
+    is_first_by (is_from v p) (is_from w p) (is_met_sooner back (aim p (other_end_of v.edge p)) (aim p (other_end_of w.edge p)))

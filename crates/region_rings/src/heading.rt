@@ -1,4 +1,4 @@
-//! Directions.
+// Directions.
 ghost use Rattle.std.specs.Prelude.{◌^◌, ◌≤◌, unsigned_abs};
 
 /// A direction: how far it goes along x and along y.

@@ -3,6 +3,7 @@
 
 mod border;
 mod drawing;
+mod exit;
 mod heading;
 mod sides;
 mod spoke;

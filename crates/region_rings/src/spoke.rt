@@ -1,8 +1,9 @@
-//! Edges by their ends.
+// Edges by their ends.
 ghost use Rattle.std.specs.Prelude.{◌≡◌, ◌≤◌, length, IfOk};
 ghost use Rattle.region_rings.specs.Spokes.{spokes_from, AreSpokesOf};
 
 use agg_base::NoMemory;
+use agg_base::limits::STEPS;
 use plane_edge::{Edge, Point};
 use std::alloc::Global;
 
@@ -15,9 +16,9 @@ pub struct Spoke {
     pub edge: usize,
 }
 
-/// Both spokes of each edge, edge by edge.
+// Both spokes of each edge, edge by edge.
 fn gather(alloc: Global, edges: &[Edge]) -> Result<Vec<Spoke>, NoMemory>
-    requires { length edges.now ≤ 2097152 }
+    requires { length edges.now ≤ STEPS }
     ensures { IfOk result (λ spokes. spokes.items ≡ spokes_from 0 edges.now) }
 {
     let mut spokes = Vec::with_capacity(alloc, 2 * edges.len())?;
@@ -36,7 +37,7 @@ fn gather(alloc: Global, edges: &[Edge]) -> Result<Vec<Spoke>, NoMemory>
 
 /// The spokes of the edges, in the order of their points.
 pub fn spokes_of(alloc: Global, edges: &[Edge]) -> Result<Vec<Spoke>, NoMemory>
-    requires { length edges.now ≤ 2097152 }
+    requires { length edges.now ≤ STEPS }
     ensures { IfOk result (λ spokes. AreSpokesOf edges.now spokes.items) }
 {
     let mut spokes = gather(alloc, edges)?;

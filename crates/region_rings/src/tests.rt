@@ -1,14 +1,15 @@
-//! Worked values.
+// Worked values.
 ghost use Rattle.std.specs.Prelude.{◌≤◌, length, IfOk};
 ghost use Rattle.plane_edge.specs.Edges.{HaveEvenEnds, IsRisingEdges};
 
 use super::*;
+use agg_base::limits::STEPS;
 use plane_edge::{Edge, Point, odd_of, steps_of_rings};
 use std::alloc::Global;
 use std::process::Abort;
 use std::test::Fail;
 
-/// The ring of some points.
+// The ring of some points.
 fn ring(rt: &impl Abort, alloc: Global, places: &[[i64; 2]]) -> Result<Vec<Point>, Fail> {
     let mut ring = Vec::new(alloc);
     for [x, y] in places {
@@ -17,18 +18,18 @@ fn ring(rt: &impl Abort, alloc: Global, places: &[[i64; 2]]) -> Result<Vec<Point
     Ok(ring)
 }
 
-/// The edges of rings, in rising order.
+// The edges of rings, in rising order.
 fn edges_of(rt: &impl Abort, alloc: Global, rings: &[Vec<Point>]) -> Result<Vec<Edge>, Fail>
     ensures rising { IfOk result (λ edges. IsRisingEdges edges.items) }
     ensures even { IfOk result (λ edges. HaveEvenEnds edges.items) }
-    ensures few { IfOk result (λ edges. length edges.items ≤ 2097152) }
+    ensures few { IfOk result (λ edges. length edges.items ≤ STEPS) }
 {
     let edges = odd_of(alloc, steps_of_rings(alloc, rings)?)?;
-    assert!(rt; edges.len() <= 2_097_152);
+    assert!(rt; edges.len() <= STEPS);
     Ok(edges)
 }
 
-/// Tries that the edges of these rings are drawn as these rings, in their order.
+// Tries that the edges of these rings are drawn as these rings, in their order.
 fn draws(rt: &impl Abort, alloc: Global, rings: &[Vec<Point>]) -> Result<(), Fail> {
     let edges = edges_of(rt, alloc, rings)?;
     let drawn = rings_of(alloc, &edges)?;
@@ -39,7 +40,7 @@ fn draws(rt: &impl Abort, alloc: Global, rings: &[Vec<Point>]) -> Result<(), Fai
     Ok(())
 }
 
-/// Tries that the edges of two rings are drawn as these rings, in their order.
+// Tries that the edges of two rings are drawn as these rings, in their order.
 fn draws_both(
     rt: &impl Abort,
     alloc: Global,
@@ -60,12 +61,12 @@ const BLOCK: [[i64; 2]; 4] = [[0, 0], [3, 0], [3, 3], [0, 3]];
 
 const HOLE: [[i64; 2]; 4] = [[2, 1], [1, 1], [1, 2], [2, 2]];
 
-/// Round these triangles the sums of `x1 * y2 - x2 * y1` are 3 and 1, so both have their insides on the left.
+// Round these triangles the sums of `x1 * y2 - x2 * y1` are 3 and 1, so both have their insides on the left.
 const RIGHT: [[i64; 2]; 3] = [[0, 0], [2, 1], [1, 2]];
 
 const LEFT: [[i64; 2]; 3] = [[0, 0], [-1, 2], [-2, 3]];
 
-/// A block with a notch on its right, and a block that closes the notch: they touch at both its corners.
+// A block with a notch on its right, and a block that closes the notch: they touch at both its corners.
 const BENT: [[i64; 2]; 8] = [
     [0, 0],
     [2, 0],
@@ -79,7 +80,7 @@ const BENT: [[i64; 2]; 8] = [
 
 const BESIDE: [[i64; 2]; 4] = [[2, 1], [3, 1], [3, 2], [2, 2]];
 
-/// A block with a notch on its top, and a block that closes the notch: they touch at both its corners.
+// A block with a notch on its top, and a block that closes the notch: they touch at both its corners.
 const TUB: [[i64; 2]; 8] = [
     [0, 0],
     [3, 0],
@@ -110,7 +111,7 @@ fn rings_part_where_they_touch(rt: HostRuntime) -> Result<(), Fail> {
     draws_both(&rt, alloc, &RIGHT, &LEFT)
 }
 
-/// A turn the other way would draw one ring round both blocks, and one round the notch.
+// A turn the other way would draw one ring round both blocks, and one round the notch.
 #[test]
 fn rings_that_touch_twice_stay_apart(rt: HostRuntime) -> Result<(), Fail> {
     let alloc = rt.alloc();

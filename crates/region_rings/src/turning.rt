@@ -1,4 +1,4 @@
-//! Which of two directions a clockwise turn meets first.
+// Which of two directions a clockwise turn meets first.
 ghost use Rattle.std.specs.Prelude.{◌≡◌};
 ghost use Rattle.region_rings.specs.Turning.{parts_of, aim, cross_of, dot_of, is_half_turn_of, is_within_half_turn, is_first_by, is_met_sooner};
 
@@ -14,28 +14,28 @@ pub fn heading(from: &Point, to: &Point) -> Heading
     Heading { x, y }
 }
 
-/// Above 0 where `b` is to the left of `a`, below 0 where it is to the right.
+// Above 0 where `b` is to the left of `a`, below 0 where it is to the right.
 fn cross(a: &Heading, b: &Heading) -> i128
     ensures { result ≡ cross_of (parts_of a.now) (parts_of b.now) }
 {
     minor(a.x, b.y, a.y, b.x)
 }
 
-/// Above 0 where `a` and `b` are less than a quarter turn apart.
+// Above 0 where `a` and `b` are less than a quarter turn apart.
 fn dot(a: &Heading, b: &Heading) -> i128
     ensures { result ≡ dot_of (parts_of a.now) (parts_of b.now) }
 {
     sum_of_products(a.x, b.x, a.y, b.y)
 }
 
-/// Whether the turn is to the right, or straight back.
+// Whether the turn is to the right, or straight back.
 fn is_half_turn(cross: i128, dot: i128) -> bool
     ensures { result ≡ is_half_turn_of cross dot }
 {
     cross < 0 || (cross == 0 && dot < 0)
 }
 
-/// Whether a clockwise turn from `back` meets the heading after half a turn at most.
+// Whether a clockwise turn from `back` meets the heading after half a turn at most.
 fn is_early(back: &Heading, to: &Heading) -> bool
     ensures { result ≡ is_within_half_turn (parts_of back.now) (parts_of to.now) }
 {

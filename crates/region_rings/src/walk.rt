@@ -1,4 +1,4 @@
-//! A walk along edges, which cuts off rings.
+// A walk along edges, which cuts off rings.
 use agg_base::NoMemory;
 use plane_edge::Point;
 use std::alloc::Global;
@@ -16,15 +16,15 @@ pub struct Walk {
 
 impl Model for Walk {
     ghost use Rattle.std.specs.Prelude.{map};
-    ghost use Rattle.region_rings.specs.Courses.{Course};
+    ghost use Rattle.region_rings.specs.Walks.{Walk};
 
-    ghost Value = { Course };
+    ghost Value = { Walk };
 
     ghost view = { λ w. record { walked = w.walked.items; path = w.path.items; places = w.places.items; rings = map (λ r. r.items) w.rings.items } };
 }
 
 ghost use Rattle.std.specs.Prelude.{◌≡◌, ◌<◌, length, map, replicate, true, false, [], IfOk, IfSome, IfNone, OnOk, slice_index, slice_index_or};
-ghost use Rattle.region_rings.specs.Courses.{along, beginning, onto, cut_at, is_visited, reaching};
+ghost use Rattle.region_rings.specs.Walks.{along, beginning, onto, cut_at, is_visited, reaching};
 
 impl Walk {
     /// A walk before its first step, along so many edges and over so many numbers of points.
@@ -60,7 +60,7 @@ impl Walk {
         Ok(())
     }
 
-    /// Whether the path has been at the point of that number.
+    // Whether the path has been at the point of that number.
     fn is_at(&self, point: &Point, number: usize) -> bool
         requires { number < length self.now.places }
         ensures { result ≡ is_visited point.now number self.now }
@@ -69,7 +69,7 @@ impl Walk {
         place < self.path.len() && self.path[place] == *point
     }
 
-    /// Goes on to the point of that number.
+    // Goes on to the point of that number.
     fn go_on(&mut self, point: Point, number: usize) -> Result<(), NoMemory>
         requires { number < length self.old.places }
         ensures { OnOk result (self.new ≡ onto point number self.old) }
@@ -79,7 +79,7 @@ impl Walk {
         Ok(())
     }
 
-    /// Cuts off the path since that place as a ring.
+    // Cuts off the path since that place as a ring.
     fn cut_off(&mut self, alloc: Global, place: usize) -> Result<(), NoMemory>
         requires { place < length self.old.path }
         ensures { OnOk result (self.new ≡ cut_at place self.old) }

@@ -6,8 +6,10 @@ use Rattle.std.proofs.lemmas.List.Elements.{All-push}
 use Rattle.plane_edge.specs.declared.point.Point.{Point}
 use Rattle.ring_arcs.specs.Breaks.{is_break}
 use Rattle.ring_arcs.specs.Chains.{IsChain, IsCutFrom, IsCovered, AreCuts, AreChainsOf, HasWay, part_of, round_from}
-use Rattle.ring_arcs.specs.RingArcs.{lists_of, without_last, first_of, last_of, AreJoined, IsTurnOf}
-use Rattle.ring_arcs.specs.Rings.{IsRing}
+use Rattle.ring_arcs.specs.RingArcs.{without_last, IsTurnOf}
+use Rattle.plane_edge.specs.Paths.{first_of, last_of, AreJoined}
+use Rattle.agg_base.specs.Lists.{lists_of}
+use Rattle.plane_edge.specs.Rings.{IsRing}
 use Rattle.ring_arcs.proofs.Points.{true_not_false}
 use Rattle.ring_arcs.proofs.RoundLemmas.{length-round, round_stepping, round_onward, round_along, round_turn, round_first, round_last}
 use Rattle.ring_arcs.proofs.WalkLemmas.{get_at, first_is, last_is, joined_append}

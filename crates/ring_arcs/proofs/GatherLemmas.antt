@@ -8,13 +8,14 @@ use Rattle.plane_edge.specs.declared.point.Point.{Point}
 use Rattle.plane_edge.specs.Rings.{in_order, steps_of_ring}
 use Rattle.ring_arcs.specs.Breaks.{is_break}
 use Rattle.ring_arcs.specs.Chains.{HasWay, IsChain, IsArc, IsCovered, AreSymmetric, AreChainsOf, AddsArcs, AreAlong, AreGathered, AreStored}
-use Rattle.ring_arcs.specs.RingArcs.{lists_of, steps_of_arc}
+use Rattle.ring_arcs.specs.RingArcs.{steps_of_arc}
+use Rattle.agg_base.specs.Lists.{lists_of}
 use Rattle.ring_arcs.specs.Rings.{steps_of_rings}
-use Rattle.ring_arcs.specs.Turning.{turned}
+use Rattle.ring_arcs.specs.Turning.{arc_of}
 use Rattle.ring_arcs.specs.Ways.{point_order, AreWaysOf, IsStepBetween}
 use Rattle.ring_arcs.proofs.ChainLemmas.{AreWays}
 use Rattle.ring_arcs.proofs.Counts.{any_left, any_right, any_mapped, any_weaker, any_contained, piece_that_contains, contains_piece, all_into_map, into_map}
-use Rattle.ring_arcs.proofs.TurnLemmas.{arc_of_chain, step_of_turned}
+use Rattle.ring_arcs.proofs.TurnLemmas.{arc_of_chain, step_of_stored}
 use Rattle.ring_arcs.proofs.WalkLemmas.{AreLong, walk_has_step}
 use Rattle.ring_arcs.proofs.WayLemmas.{are_ways}
 
@@ -22,20 +23,20 @@ pub chains_long : (ways : List (Point × Point)) (loops ring : List Point) (chai
 chains_long ways loops ring chains c = λ k d l. (c.each k d l).long
 
 -- each step of a ring is along one of the arcs that its chains are stored as
-ring_along : (ways : List (Point × Point)) (loops ring : List Point) (chains : List (List Point)) → AreWays (HasWay ways) (is_break ways loops) → AreChainsOf ways loops ring chains → AreAlong (map turned chains) (steps_of_ring ring)
+ring_along : (ways : List (Point × Point)) (loops ring : List Point) (chains : List (List Point)) → AreWays (HasWay ways) (is_break ways loops) → AreChainsOf ways loops ring chains → AreAlong (map arc_of chains) (steps_of_ring ring)
 ring_along ways loops ring chains ws c p q s =
     let walked = walk_has_step ring chains (chains_long ways loops ring chains c) c.walk (in_order p q) s in
-    any_mapped (λ arc. IsStepBetween (steps_of_arc arc) p q) turned chains
-    (any_weaker (λ path. Contains (steps_of_arc path) (in_order p q)) (λ path. Contains (steps_of_arc (turned path)) (in_order p q)) chains
-    (λ path i h. step_of_turned ws path (in_order p q) (All-contains (IsChain (HasWay ways) (is_break ways loops)) chains path c.each i) h) walked)
+    any_mapped (λ arc. IsStepBetween (steps_of_arc arc) p q) arc_of chains
+    (any_weaker (λ path. Contains (steps_of_arc path) (in_order p q)) (λ path. Contains (steps_of_arc (arc_of path)) (in_order p q)) chains
+    (λ path i h. step_of_stored ws path (in_order p q) (All-contains (IsChain (HasWay ways) (is_break ways loops)) chains path c.each i) h) walked)
 
 pub gathered_more : (ways : List (Point × Point)) (loops ring : List Point) (rings old new : List (List Point)) → AreSymmetric ways → AddsArcs ways loops ring old new → AreGathered ways loops rings old → AreGathered ways loops (rings ++ ring ∷ []) new
 gathered_more ways loops ring rings old new s a g = subst (AreGathered ways loops (rings ++ ring ∷ [])) (sym a.is) (record {
-  each = All-append (IsArc ways loops) old (map turned a.chains) g.each
-      (all_into_map (IsArc ways loops) turned a.chains (All-weaker (IsChain (HasWay ways) (is_break ways loops)) (λ c. IsArc ways loops (turned c)) (λ c h. arc_of_chain ways loops c (are_ways ways loops s) h) a.chains a.are.each));
-  whole = All-push (λ r. AreAlong (old ++ map turned a.chains) (steps_of_ring r)) rings ring
-      (All-weaker (λ r. AreAlong old (steps_of_ring r)) (λ r. AreAlong (old ++ map turned a.chains) (steps_of_ring r)) (λ r h p q t. any_left (λ arc. IsStepBetween (steps_of_arc arc) p q) old (map turned a.chains) (h p q t)) rings g.whole)
-      (λ p q t. any_right (λ arc. IsStepBetween (steps_of_arc arc) p q) old (map turned a.chains) (ring_along ways loops ring a.chains (are_ways ways loops s) a.are p q t));
+  each = All-append (IsArc ways loops) old (map arc_of a.chains) g.each
+      (all_into_map (IsArc ways loops) arc_of a.chains (All-weaker (IsChain (HasWay ways) (is_break ways loops)) (λ c. IsArc ways loops (arc_of c)) (λ c h. arc_of_chain ways loops c (are_ways ways loops s) h) a.chains a.are.each));
+  whole = All-push (λ r. AreAlong (old ++ map arc_of a.chains) (steps_of_ring r)) rings ring
+      (All-weaker (λ r. AreAlong old (steps_of_ring r)) (λ r. AreAlong (old ++ map arc_of a.chains) (steps_of_ring r)) (λ r h p q t. any_left (λ arc. IsStepBetween (steps_of_arc arc) p q) old (map arc_of a.chains) (h p q t)) rings g.whole)
+      (λ p q t. any_right (λ arc. IsStepBetween (steps_of_arc arc) p q) old (map arc_of a.chains) (ring_along ways loops ring a.chains (are_ways ways loops s) a.are p q t));
 })
 
 pub gathered_step : (ways : List (Point × Point)) (loops : List Point) (rings : List (Vec Point Global)) (i : ℕ) (ring : Vec Point Global) (old new : List (List Point)) → i < length rings → ring ≡ get_or rings i ring → AreSymmetric ways → AddsArcs ways loops ring.items old new → AreGathered ways loops (lists_of (take i rings)) old → AreGathered ways loops (lists_of (take (i + 1) rings)) new

@@ -5,17 +5,17 @@ use Rattle.std.proofs.lemmas.List.{take_more, map_push, reverse-reverse, get_or_
 use Rattle.std.proofs.lemmas.Bool.Decides.{nat_tests}
 use Rattle.std.proofs.lemmas.List.Elements.{All-append, All-take, All-drop}
 use Rattle.plane_edge.specs.declared.point.Point.{Point}
-use Rattle.plane_edge.specs.Rings.{in_order}
+use Rattle.plane_edge.specs.Rings.{in_order, IsRing}
 use Rattle.ring_arcs.specs.Breaks.{is_break}
 use Rattle.ring_arcs.specs.Chains.{HasWay, IsChain, IsArc, AreSymmetric, AreChainsOf, AreStored}
 use Rattle.ring_arcs.specs.Numbers.{number_of, is_before, IsLeastAt, IsStoredIn}
-use Rattle.ring_arcs.specs.Rings.{IsRing}
-use Rattle.ring_arcs.specs.RingArcs.{lists_of, arc_at, IsIndex, IsWalkRound, AreIndexesOf, AreIndexed}
-use Rattle.ring_arcs.specs.Turning.{is_backward, turned}
+use Rattle.ring_arcs.specs.RingArcs.{arc_at, IsIndex, IsWalkRound, AreIndexesOf, AreIndexed}
+use Rattle.agg_base.specs.Lists.{lists_of}
+use Rattle.ring_arcs.specs.Turning.{is_backward, arc_of}
 use Rattle.ring_arcs.proofs.ChainLemmas.{AreWays}
 use Rattle.ring_arcs.proofs.Steps.{contains_step}
 use Rattle.ring_arcs.proofs.StoreLemmas.{arcs_same}
-use Rattle.ring_arcs.proofs.TurnLemmas.{turned-backward, turned-forward, arc_of_chain, step_of_turned}
+use Rattle.ring_arcs.proofs.TurnLemmas.{arc_of-backward, arc_of-forward, arc_of_chain, step_of_stored}
 use Rattle.ring_arcs.proofs.WalkLemmas.{AreLong, walk_on}
 use Rattle.ring_arcs.proofs.WayLemmas.{are_ways}
 
@@ -29,19 +29,19 @@ stored_chain ways loops arcs (p ∷ ps) ws s h =
     let way : HasWay ways p q = h.along 0 p two in
     let found = s.whole p q way in
     let other : IsArc ways loops found.1 = subst (IsArc ways loops) found.3 (s.each found.0 found.1 found.2) in
-    let here = step_of_turned ws c (in_order p q) h (contains_step c 0 p h.stepping two) in
-    let same : turned c ≡ found.1 = arcs_same ways loops (turned c) found.1 ws (arc_of_chain ways loops c ws h) other (in_order p q) here found.4 in
+    let here = step_of_stored ws c (in_order p q) h (contains_step c 0 p h.stepping two) in
+    let same : arc_of c ≡ found.1 = arcs_same ways loops (arc_of c) found.1 ws (arc_of_chain ways loops c ws h) other (in_order p q) here found.4 in
     record { long = h.long; stored = subst (Contains arcs) (sym same) (found.0, found.2, found.3) }
 
 pub stored_chains : (ways : List (Point × Point)) (loops ring : List Point) (arcs chains : List (List Point)) → AreSymmetric ways → AreStored ways loops arcs → AreChainsOf ways loops ring chains → All (IsStoredIn arcs) chains
 stored_chains ways loops ring arcs chains m s c = λ k d l. stored_chain ways loops arcs (get_or chains k d) (are_ways ways loops m) s (c.each k d l)
 
 -- ---- the index of a chain
-pub told_forward : (arcs : List (List Point)) (c : List Point) (i : ℕ) → get_or arcs i [] ≡ turned c → ((d : Point) → false ≡ is_backward d c) → arc_at arcs (pos i) ≡ c
-told_forward arcs c i h b = h ∙ turned-forward c b
+pub told_forward : (arcs : List (List Point)) (c : List Point) (i : ℕ) → get_or arcs i [] ≡ arc_of c → ((d : Point) → false ≡ is_backward d c) → arc_at arcs (pos i) ≡ c
+told_forward arcs c i h b = h ∙ arc_of-forward c b
 
-pub told_backward : (arcs : List (List Point)) (c : List Point) (i : ℕ) → get_or arcs i [] ≡ turned c → ((d : Point) → true ≡ is_backward d c) → arc_at arcs (negsuc i) ≡ c
-told_backward arcs c i h b = ap (λ (ps : List Point). reverse ps) (h ∙ turned-backward c b) ∙ reverse-reverse c
+pub told_backward : (arcs : List (List Point)) (c : List Point) (i : ℕ) → get_or arcs i [] ≡ arc_of c → ((d : Point) → true ≡ is_backward d c) → arc_at arcs (negsuc i) ≡ c
+told_backward arcs c i h b = ap (λ (ps : List Point). reverse ps) (h ∙ arc_of-backward c b) ∙ reverse-reverse c
 
 -- ---- from another index on
 

@@ -5,9 +5,8 @@ use Rattle.std.specs.Ordering.{ordering_reverse, is_lt, is_eq}
 use Rattle.plane_edge.specs.declared.point.Point.{Point}
 use Rattle.plane_edge.specs.Edges.{is_same_point}
 use Rattle.plane_edge.specs.Order.{is_below}
-use Rattle.plane_edge.specs.Rings.{in_order, step_between}
+use Rattle.plane_edge.specs.Rings.{in_order, step_between, is_same_step}
 use Rattle.plane_edge.proofs.OrderLemmas.{point_order, point_order_total, below_is_less, same_is_equal, same_points_equal, same_point_itself}
-use Rattle.ring_arcs.specs.RingArcs.{is_same_step}
 
 pub either : (b : Bool) → (b ≡ true) ⊎ (b ≡ false)
 either true = inl refl

@@ -2,10 +2,9 @@
 use Rattle.std.proofs.Common.{◌≡◌, ◌≢◌, ◌⊎◌, inl, inr, ℕ, ◌+◌, ◌-◌, ◌<◌, ◌≤◌, refl, sym, ◌∙◌, ap, subst, arith, append_assoc, length-append, length-drop, List, [], ◌∷◌, ◌++◌, length, get_or, take, drop, AllPairs, Contains}
 use Rattle.std.proofs.lemmas.List.{take_more, drop_more, take-append-drop, get_or_append_left, get_or-append-add, get_or-append_right, length-take, get_or_push, take_at}
 use Rattle.plane_edge.specs.declared.point.Point.{Point}
-use Rattle.plane_edge.specs.Rings.{in_order, steps_of_ring}
+use Rattle.plane_edge.specs.Rings.{in_order, steps_of_ring, IsRing}
 use Rattle.ring_arcs.specs.Chains.{round_from, HasWay, IsCovered}
 use Rattle.ring_arcs.specs.RingArcs.{steps_of_arc, without_last, IsTurnOf}
-use Rattle.ring_arcs.specs.Rings.{IsRing}
 use Rattle.ring_arcs.proofs.Steps.{IsStepping, contains_step}
 use Rattle.ring_arcs.proofs.WalkLemmas.{step_of_turn, round_steps, turn_itself}
 
@@ -70,7 +69,7 @@ pub length-round : (ring : List Point) (at : ℕ) → at < length ring → lengt
 length-round ring at l = omega (arith, length-append (drop at ring) (take (at + 1) ring), length-drop at ring, length-take (at + 1) ring)
 
 turn_differs : (ring : List Point) (at : ℕ) → IsRing ring → AreDifferent (turn_from ring at)
-turn_differs ring at h = different_turn (take at ring) (drop at ring) (subst AreDifferent (sym (take-append-drop at ring)) h.different)
+turn_differs ring at h = different_turn (take at ring) (drop at ring) (subst AreDifferent (sym (take-append-drop at ring)) h.simple)
 
 round_differs : (ring : List Point) (at i j : ℕ) (d : Point) → IsRing ring → at < length ring → i < j → j ≤ length ring → (0 < i) ⊎ (j < length ring) → get_or (round_from ring at) i d ≢ get_or (round_from ring at) j d
 round_differs ring at i j d h l m n c =

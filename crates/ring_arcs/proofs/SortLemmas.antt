@@ -13,7 +13,7 @@ use Rattle.std.proofs.lemmas.List.Elements.{All-from_recursion, recursion_from_A
 use Rattle.std.proofs.lemmas.List.Kept.{Any-dedup, Contains-from_dedup}
 use Rattle.std.proofs.lemmas.List.Sorted.{Contains-permutation, IsPermutation-sym, searchable_from_sorted}
 use Rattle.plane_edge.specs.declared.point.Point.{Point}
-use Rattle.ring_arcs.specs.RingArcs.{lists_of}
+use Rattle.agg_base.specs.Lists.{lists_of}
 use Rattle.ring_arcs.specs.Ways.{point_order}
 use Rattle.ring_arcs.proofs.Counts.{from_map, into_map, all_from_map, all_into_map}
 use Rattle.ring_arcs.proofs.NodeLemmas.{sorted_from_strictly}

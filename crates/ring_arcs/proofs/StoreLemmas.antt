@@ -7,12 +7,12 @@ use Rattle.std.specs.List.Sorted.{IsStrictlySortedBy}
 use Rattle.std.proofs.lemmas.Cmp.{lists_total, tied_itself}
 use Rattle.std.proofs.lemmas.List.Elements.{All-from_recursion, All-tail}
 use Rattle.plane_edge.specs.declared.point.Point.{Point}
-use Rattle.plane_edge.specs.Rings.{in_order, steps_of_ring}
+use Rattle.plane_edge.specs.Rings.{in_order, steps_of_ring, is_same_step, times}
 use Rattle.plane_edge.proofs.EvenLists.{count-append}
 use Rattle.plane_edge.proofs.OrderLemmas.{point_order_total}
 use Rattle.ring_arcs.specs.Breaks.{is_break}
 use Rattle.ring_arcs.specs.Chains.{HasWay, IsArc, AreStored}
-use Rattle.ring_arcs.specs.RingArcs.{is_same_step, times, steps_of_arc, steps_of_arcs, AreArcsOf}
+use Rattle.ring_arcs.specs.RingArcs.{steps_of_arc, steps_of_arcs, AreArcsOf}
 use Rattle.ring_arcs.specs.Rings.{steps_of_rings}
 use Rattle.ring_arcs.specs.Ways.{point_order, AreWaysOf}
 use Rattle.ring_arcs.proofs.ChainLemmas.{AreWays, arcs_equal}

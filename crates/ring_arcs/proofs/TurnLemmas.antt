@@ -9,19 +9,19 @@ use Rattle.plane_edge.proofs.OrderLemmas.{point_irreflexive}
 use Rattle.ring_arcs.specs.Breaks.{is_break}
 use Rattle.ring_arcs.specs.Chains.{HasWay, IsChain, IsArc}
 use Rattle.ring_arcs.specs.RingArcs.{steps_of_arc}
-use Rattle.ring_arcs.specs.Turning.{is_backward, turned}
+use Rattle.ring_arcs.specs.Turning.{is_backward, arc_of}
 use Rattle.ring_arcs.proofs.ChainLemmas.{AreWays, IsChain-reverse, reversed_at, backward_closed, backward_open}
 use Rattle.ring_arcs.proofs.Points.{either, true_not_false, point_case, same_or_not, in_order-comm}
 use Rattle.ring_arcs.proofs.Points.PointCase.{below, same, above}
 use Rattle.ring_arcs.proofs.Steps.{place_of_step, contains_step}
 
-pub turned-backward : (chain : List Point) → ((d : Point) → true ≡ is_backward d chain) → turned chain ≡ reverse chain
-turned-backward [] h = refl
-turned-backward (p ∷ ps) h = ap (λ (b : Bool). if b then reverse (p ∷ ps) else p ∷ ps) (sym (h p))
+pub arc_of-backward : (chain : List Point) → ((d : Point) → true ≡ is_backward d chain) → arc_of chain ≡ reverse chain
+arc_of-backward [] h = refl
+arc_of-backward (p ∷ ps) h = ap (λ (b : Bool). if b then reverse (p ∷ ps) else p ∷ ps) (sym (h p))
 
-pub turned-forward : (chain : List Point) → ((d : Point) → false ≡ is_backward d chain) → turned chain ≡ chain
-turned-forward [] h = refl
-turned-forward (p ∷ ps) h = ap (λ (b : Bool). if b then reverse (p ∷ ps) else p ∷ ps) (sym (h p))
+pub arc_of-forward : (chain : List Point) → ((d : Point) → false ≡ is_backward d chain) → arc_of chain ≡ chain
+arc_of-forward [] h = refl
+arc_of-forward (p ∷ ps) h = ap (λ (b : Bool). if b then reverse (p ∷ ps) else p ∷ ps) (sym (h p))
 
 -- ---- arcs
 default_same : (c : List Point) (d e : Point) → 2 ≤ length c → is_backward d c ≡ is_backward e c
@@ -36,10 +36,10 @@ default_same c d e l =
     ∙ ap (λ (p : Point). if is_same_point (get_or c 0 e) (get_or c (length c - 1) e) then is_below (get_or c (length c - 2) e) p else is_below (get_or c (length c - 1) e) (get_or c 0 e)) second
 
 -- a stored chain is the chain or the same backwards
-pub turned_is : (c : List Point) (d : Point) → 2 ≤ length c → ((is_backward d c ≡ true) × (turned c ≡ reverse c)) ⊎ ((is_backward d c ≡ false) × (turned c ≡ c))
-turned_is c d l = elim (either (is_backward d c)) [
-  | inl b ↦ inl (b, turned-backward c (λ e. sym b ∙ default_same c d e l))
-  | inr b ↦ inr (b, turned-forward c (λ e. sym b ∙ default_same c d e l))
+pub arc_is : (c : List Point) (d : Point) → 2 ≤ length c → ((is_backward d c ≡ true) × (arc_of c ≡ reverse c)) ⊎ ((is_backward d c ≡ false) × (arc_of c ≡ c))
+arc_is c d l = elim (either (is_backward d c)) [
+  | inl b ↦ inl (b, arc_of-backward c (λ e. sym b ∙ default_same c d e l))
+  | inr b ↦ inr (b, arc_of-forward c (λ e. sym b ∙ default_same c d e l))
 ]
 
 below_one_way : (p q : Point) → is_below p q ≡ true → is_below q p ≡ false
@@ -67,9 +67,9 @@ reversed_is_forward c d l h =
           ∙ below_one_way (get_or c (length c - 1) d) (get_or c 0 d) (sym (backward_open d c q) ∙ h)
     ]
 
-pub arc_of_chain : (ways : List (Point × Point)) (loops chain : List Point) → AreWays (HasWay ways) (is_break ways loops) → IsChain (HasWay ways) (is_break ways loops) chain → IsArc ways loops (turned chain)
+pub arc_of_chain : (ways : List (Point × Point)) (loops chain : List Point) → AreWays (HasWay ways) (is_break ways loops) → IsChain (HasWay ways) (is_break ways loops) chain → IsArc ways loops (arc_of chain)
 arc_of_chain ways loops [] ws h = absurd (omega (arith, h.long))
-arc_of_chain ways loops (p ∷ ps) ws h = elim (turned_is (p ∷ ps) p h.long) [
+arc_of_chain ways loops (p ∷ ps) ws h = elim (arc_is (p ∷ ps) p h.long) [
   | inl b ↦ subst (IsArc ways loops) (sym b.1) (record {
     chain = IsChain-reverse ws (p ∷ ps) h;
     forward = λ d. reversed_is_forward (p ∷ ps) d h.long (default_same (p ∷ ps) d p h.long ∙ b.0);
@@ -96,8 +96,8 @@ step_of_reverse ws chain s h c =
     ∙ in_order-comm (get_or chain (r.0 + 1) d) (get_or chain r.0 d) ∙ sym (r.1.1 d) in
     subst (λ (t : Point × Point). Contains (steps_of_arc (reverse chain)) t) is there
 
-pub step_of_turned : {W : Point → Point → Type 0} {B : Point → Bool} → AreWays W B → (chain : List Point) (s : Point × Point) → IsChain W B chain → Contains (steps_of_arc chain) s → Contains (steps_of_arc (turned chain)) s
-step_of_turned ws chain s h c = elim (turned_is chain s.0 h.long) [
+pub step_of_stored : {W : Point → Point → Type 0} {B : Point → Bool} → AreWays W B → (chain : List Point) (s : Point × Point) → IsChain W B chain → Contains (steps_of_arc chain) s → Contains (steps_of_arc (arc_of chain)) s
+step_of_stored ws chain s h c = elim (arc_is chain s.0 h.long) [
   | inl b ↦ subst (λ (arc : List Point). Contains (steps_of_arc arc) s) (sym b.1) (step_of_reverse ws chain s h c)
   | inr b ↦ subst (λ (arc : List Point). Contains (steps_of_arc arc) s) (sym b.1) c
 ]

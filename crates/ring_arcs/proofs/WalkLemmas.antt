@@ -5,7 +5,8 @@ use Rattle.std.proofs.lemmas.List.Concat.{flat_map-append}
 use Rattle.std.proofs.lemmas.List.Elements.{All-head, All-tail, Contains-append_left, Contains-append_right, Contains-append_cases}
 use Rattle.plane_edge.specs.declared.point.Point.{Point}
 use Rattle.plane_edge.specs.Rings.{steps_of_ring}
-use Rattle.ring_arcs.specs.RingArcs.{steps_of_arc, without_last, first_of, last_of, AreJoined, IsTurnOf, IsWalkRound}
+use Rattle.ring_arcs.specs.RingArcs.{steps_of_arc, without_last, IsTurnOf, IsWalkRound}
+use Rattle.plane_edge.specs.Paths.{first_of, last_of, AreJoined}
 use Rattle.ring_arcs.proofs.Counts.{piece_that_contains}
 use Rattle.ring_arcs.proofs.Steps.{steps-append}
 

@@ -9,13 +9,13 @@ use Rattle.std.specs.List.{list_any}
 use Rattle.plane_edge.specs.declared.point.Point.{Point}
 use Rattle.plane_edge.specs.Edges.{is_same_point}
 use Rattle.plane_edge.specs.Order.{is_below}
-use Rattle.plane_edge.specs.Rings.{ends_of, in_order, steps_of_ring}
+use Rattle.plane_edge.specs.Rings.{ends_of, in_order, steps_of_ring, is_same_step, times}
 use Rattle.plane_edge.specs.declared.edge.Edge.{Edge}
 use Rattle.plane_edge.proofs.OrderLemmas.{same_is_equal, same_points_equal, same_point_itself, point_irreflexive}
 use Rattle.plane_edge.proofs.EvenLists.{bit, bit_yes, count-cons}
 use Rattle.ring_arcs.specs.Breaks.{is_break}
 use Rattle.ring_arcs.specs.Chains.{HasWay, AreSymmetric}
-use Rattle.ring_arcs.specs.RingArcs.{is_same_step, times, lists_of}
+use Rattle.agg_base.specs.Lists.{lists_of}
 use Rattle.ring_arcs.specs.Rings.{steps_of_rings}
 use Rattle.ring_arcs.specs.Ways.{point_order, way_order, both_ways, AreWaysOf}
 use Rattle.ring_arcs.proofs.Points.{true_not_false, point_case, same_or_not, in_order-comm, ends_of_step, is_same, same_steps_equal, equal_steps_same}

@@ -5,8 +5,9 @@ use Rattle.std.specs.List.Sorted.{IsStrictlySortedBy}
 use Rattle.plane_edge.specs.Rings.{steps_of_ring}
 use Rattle.plane_edge.specs.declared.point.Point.{Point}
 use Rattle.ring_arcs.specs.Breaks.{is_break}
-use Rattle.ring_arcs.specs.RingArcs.{steps_of_arc, without_last, first_of, last_of, AreJoined, IsWalkRound}
-use Rattle.ring_arcs.specs.Turning.{is_backward, turned}
+use Rattle.ring_arcs.specs.RingArcs.{steps_of_arc, without_last, IsWalkRound}
+use Rattle.plane_edge.specs.Paths.{first_of, last_of, AreJoined}
+use Rattle.ring_arcs.specs.Turning.{is_backward, arc_of}
 use Rattle.ring_arcs.specs.Ways.{point_order, IsStepBetween}
 
 -- a path along ways that turns nowhere back, from a break to a break with none between
@@ -76,7 +77,7 @@ pub record AreStored (ways : List (Point × Point)) (loops : List Point) (arcs :
 pub record AddsArcs (ways : List (Point × Point)) (loops ring : List Point) (old new : List (List Point)) : Type 0 where
   pub chains : List (List Point)
   pub are : AreChainsOf ways loops ring chains
-  pub is : new ≡ old ++ map turned chains
+  pub is : new ≡ old ++ map arc_of chains
 
 -- each step between two points is along one of the arcs
 abbrev pub AreAlong : List (List Point) → List (Point × Point) → Type 0

@@ -1,7 +1,7 @@
 -- Numbers of arcs.
 use Rattle.std.specs.Prelude.{◌<◌, ◌≤◌, ℕ, ℤ, pos, negsuc, Bool, nat_lt, List, length, get_or, Contains}
 use Rattle.plane_edge.specs.declared.point.Point.{Point}
-use Rattle.ring_arcs.specs.Turning.{turned}
+use Rattle.ring_arcs.specs.Turning.{arc_of}
 
 -- the number of the arc that the index tells
 abbrev pub number_of : ℤ → ℕ
@@ -19,4 +19,4 @@ IsLeastAt indexes n at = (k : ℕ) (d : ℤ) → k < n → number_of (get_or ind
 -- the chain is a path that is stored among the arcs
 pub record IsStoredIn (arcs : List (List Point)) (chain : List Point) : Type 0 where
   pub long : 2 ≤ length chain
-  pub stored : Contains arcs (turned chain)
+  pub stored : Contains arcs (arc_of chain)

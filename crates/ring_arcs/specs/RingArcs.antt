@@ -4,17 +4,13 @@ use Rattle.std.specs.Cmp.Lexicographic.{slice_cmp}
 use Rattle.std.specs.List.{AllZip}
 use Rattle.std.specs.List.Sorted.{IsStrictlySortedBy}
 use Rattle.std.specs.declared.alloc.Global.{Global}
-use Rattle.plane_edge.specs.Edges.{is_same_point}
-use Rattle.plane_edge.specs.Rings.{path_from}
+use Rattle.plane_edge.specs.Paths.{AreJoined}
+use Rattle.plane_edge.specs.Rings.{path_from, times}
 use Rattle.plane_edge.specs.declared.point.Point.{Point}
 use Rattle.ring_arcs.specs.Numbers.{IsLeastAt}
 use Rattle.ring_arcs.specs.Rings.{steps_of_rings}
 use Rattle.ring_arcs.specs.Turning.{is_backward}
 use Rattle.ring_arcs.specs.Ways.{point_order}
-
--- the lists that vectors hold
-abbrev pub lists_of : {X : Type 0} → List (Vec X Global) → List (List X)
-lists_of vs = map (λ v. v.items) vs
 
 -- the steps of an arc: from each of its points to the next
 abbrev pub steps_of_arc : List Point → List (Point × Point)
@@ -24,14 +20,6 @@ steps_of_arc (p ∷ ps) = path_from p ps
 -- the steps of the arcs, arc by arc
 abbrev pub steps_of_arcs : List (List Point) → List (Point × Point)
 steps_of_arcs arcs = flat_map steps_of_arc arcs
-
--- the steps join the same points
-abbrev pub is_same_step : Point × Point → Point × Point → Bool
-is_same_step d e = is_same_point d.0 e.0 && is_same_point d.1 e.1
-
--- how often the step stands among the steps
-abbrev pub times : Point × Point → List (Point × Point) → ℕ
-times d steps = count_by (λ e. is_same_step d e) steps
 
 -- the arcs are in the order of their lists of points, none of them twice, and none of them goes backward
 pub record AreArcsInOrder (arcs : List (List Point)) : Type 0 where
@@ -59,17 +47,6 @@ arc_at arcs (negsuc i) = reverse (get_or arcs i [])
 -- the path without its last point
 abbrev pub without_last : List Point → List Point
 without_last path = take (length path - 1) path
-
-abbrev pub first_of : List Point → Option Point
-first_of path = slice_get path 0
-
-abbrev pub last_of : List Point → Option Point
-last_of path = slice_get path (length path - 1)
-
--- the first path begins where it is told, each further one where the one before ends, and the last one ends where it is told
-abbrev pub AreJoined : Option Point → List (List Point) → Option Point → Type 0
-AreJoined begin [] end = begin ≡ end
-AreJoined begin (path ∷ paths) end = (first_of path ≡ begin) × AreJoined (last_of path) paths end
 
 -- the list has the points of the ring in its direction, from one of them on round: the ring's front is put behind the rest
 pub record IsTurnOf (ring points : List Point) : Type 0 where

@@ -9,6 +9,6 @@ abbrev pub is_backward : Point → List Point → Bool
 is_backward d chain = (if is_same_point (get_or chain 0 d) (get_or chain (length chain - 1) d) then is_below (get_or chain (length chain - 2) d) (get_or chain 1 d) else is_below (get_or chain (length chain - 1) d) (get_or chain 0 d))
 
 -- the chain, from its lesser end; where both ends are one point, first to the lesser of the two next points
-abbrev pub turned : List Point → List Point
-turned [] = []
-turned (p ∷ ps) = (if is_backward p (p ∷ ps) then reverse (p ∷ ps) else p ∷ ps)
+abbrev pub arc_of : List Point → List Point
+arc_of [] = []
+arc_of (p ∷ ps) = (if is_backward p (p ∷ ps) then reverse (p ∷ ps) else p ∷ ps)

@@ -1,19 +1,21 @@
-//! All rings over shared arcs.
+// All rings over shared arcs.
 ghost use Rattle.std.specs.Prelude.{◌≡◌, ◌↔◌, ◌≤◌, ◌++◌, List, length, map, All, Contains, IfOk, OnOk};
 ghost use Rattle.std.specs.Cmp.Lexicographic.{slice_cmp};
 ghost use Rattle.std.specs.List.Sorted.{IsStrictlySortedBy};
-ghost use Rattle.plane_edge.specs.declared.point.Point.{Point as Place};
+ghost use Rattle.plane_edge.specs.declared.point.Point.{Point};
 ghost use Rattle.ring_arcs.specs.Breaks.{IsBroken};
 ghost use Rattle.ring_arcs.specs.Chains.{AddsArcs, AreGathered, AreStored, AreSymmetric, IsCovered};
-ghost use Rattle.ring_arcs.specs.RingArcs.{lists_of, AreArcsOf, AreIndexed};
-ghost use Rattle.ring_arcs.specs.Rings.{IsRing, steps_of_rings};
-ghost use Rattle.ring_arcs.specs.Turning.{turned};
+ghost use Rattle.ring_arcs.specs.RingArcs.{AreArcsOf, AreIndexed};
+ghost use Rattle.agg_base.specs.Lists.{lists_of};
+ghost use Rattle.ring_arcs.specs.Rings.{steps_of_rings};
+ghost use Rattle.plane_edge.specs.Rings.{IsRing};
+ghost use Rattle.ring_arcs.specs.Turning.{arc_of};
 ghost use Rattle.ring_arcs.specs.Ways.{point_order, AreWaysOf};
 
 use crate::breaks::Breaks;
 use crate::chains::chains_of;
 use crate::numbers::indexes_of;
-use crate::turning::turned;
+use crate::turning::arc_of;
 use agg_base::NoMemory;
 use plane_edge::Point;
 use std::alloc::Global;
@@ -27,22 +29,22 @@ pub struct Arcs {
     pub rings: Vec<Vec<i64>>,
 }
 
-/// Appends the arcs that the chains are stored as.
-fn push_turned(
+// Appends the arcs that the chains are stored as.
+fn push_stored(
     arcs: &mut Vec<Vec<Point>>,
     alloc: Global,
     chains: &[Vec<Point>],
 ) -> Result<(), NoMemory>
     requires { All (λ chain. 2 ≤ length chain.items) chains.now }
-    ensures { OnOk result (lists_of arcs.new.items ≡ lists_of arcs.old.items ++ map turned (lists_of chains.now)) }
+    ensures { OnOk result (lists_of arcs.new.items ≡ lists_of arcs.old.items ++ map arc_of (lists_of chains.now)) }
 {
     for chain in chains {
-        arcs.push(turned(alloc, chain)?)?;
+        arcs.push(arc_of(alloc, chain)?)?;
     }
     Ok(())
 }
 
-/// Appends the arcs of the ring.
+// Appends the arcs of the ring.
 fn push_arcs(
     arcs: &mut Vec<Vec<Point>>,
     alloc: Global,
@@ -55,10 +57,10 @@ fn push_arcs(
     ensures { OnOk result (AddsArcs breaks.now.ways.items breaks.now.loops.items ring.now (lists_of arcs.old.items) (lists_of arcs.new.items)) }
 {
     let chains = chains_of(alloc, breaks, ring)?;
-    push_turned(arcs, alloc, &chains)
+    push_stored(arcs, alloc, &chains)
 }
 
-/// The arcs of all rings, ring by ring.
+// The arcs of all rings, ring by ring.
 fn gather(alloc: Global, breaks: &Breaks, rings: &[Vec<Point>]) -> Result<Vec<Vec<Point>>, NoMemory>
     requires rings { All (λ ring. IsRing ring.items) rings.now }
     requires broken { All (λ ring. IsBroken breaks.now.ways.items breaks.now.loops.items ring.items) rings.now }
@@ -73,16 +75,16 @@ fn gather(alloc: Global, breaks: &Breaks, rings: &[Vec<Point>]) -> Result<Vec<Ve
     Ok(arcs)
 }
 
-/// Sorts the arcs, and keeps each once.
+// Sorts the arcs, and keeps each once.
 fn sort_distinct(arcs: &mut Vec<Vec<Point>>)
     ensures rising { IsStrictlySortedBy (slice_cmp point_order) (lists_of arcs.new.items) }
-    ensures same { (arc : List Place) → Contains (lists_of arcs.new.items) arc ↔ Contains (lists_of arcs.old.items) arc }
+    ensures same { (arc : List Point) → Contains (lists_of arcs.new.items) arc ↔ Contains (lists_of arcs.old.items) arc }
 {
     arcs.sort_unstable();
     arcs.dedup();
 }
 
-/// The arcs of all rings, in order and each once.
+// The arcs of all rings, in order and each once.
 fn all_arcs(
     alloc: Global,
     breaks: &Breaks,
@@ -98,7 +100,7 @@ fn all_arcs(
     Ok(arcs)
 }
 
-/// The indexes of each ring.
+// The indexes of each ring.
 fn all_indexes(
     alloc: Global,
     breaks: &Breaks,
@@ -127,7 +129,7 @@ fn all_indexes(
 /// arc of least number, and goes in its own direction. No point is dropped from a straight line.
 ///
 /// Each ring is a cyclic list of points, the first not repeated at the end. `NoMemory` comes only
-/// where memory is wanting.
+/// when memory runs out.
 pub fn arcs_of(alloc: Global, rings: &[Vec<Point>]) -> Result<Arcs, NoMemory>
     requires rings { All (λ ring. IsRing ring.items) rings.now }
     ensures arcs { IfOk result (λ a. AreArcsOf (lists_of rings.now) (lists_of a.arcs.items)) }

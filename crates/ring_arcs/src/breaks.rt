@@ -1,4 +1,4 @@
-//! The points at which rings are cut into chains.
+// The points at which rings are cut into chains.
 ghost use Rattle.std.specs.List.Sorted.{IsSorted};
 ghost use Rattle.ring_arcs.specs.Ways.{point_order, way_order};
 
@@ -24,7 +24,7 @@ pub struct Breaks {
 impl Breaks {
     ghost use Rattle.std.specs.Prelude.{◌≡◌, IfOk, All, ◌<◌, length};
     ghost use Rattle.ring_arcs.specs.Breaks.{is_break, IsBroken};
-    ghost use Rattle.ring_arcs.specs.RingArcs.{lists_of};
+    ghost use Rattle.agg_base.specs.Lists.{lists_of};
     ghost use Rattle.ring_arcs.specs.Rings.{steps_of_rings};
     ghost use Rattle.ring_arcs.specs.Ways.{AreWaysOf};
 

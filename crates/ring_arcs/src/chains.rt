@@ -1,21 +1,21 @@
-//! Rings cut into chains.
+// Rings cut into chains.
 ghost use Rattle.std.specs.Prelude.{◌≡◌, ◌-◌, ◌<◌, ◌≤◌, true, length, get_or, IfOk};
 ghost use Rattle.ring_arcs.specs.Breaks.{is_break, IsBroken};
 ghost use Rattle.ring_arcs.specs.Chains.{IsCovered, AreCuts, AreChainsOf, round_from};
-ghost use Rattle.ring_arcs.specs.RingArcs.{lists_of};
-ghost use Rattle.ring_arcs.specs.Rings.{IsRing};
-ghost use Rattle.plane_edge.specs.declared.point.Point.{Point as Place};
+ghost use Rattle.agg_base.specs.Lists.{lists_of};
+ghost use Rattle.plane_edge.specs.Rings.{IsRing};
+ghost use Rattle.plane_edge.specs.declared.point.Point.{Point};
 
 use crate::breaks::Breaks;
 use agg_base::NoMemory;
 use plane_edge::Point;
 use std::alloc::Global;
 
-/// Where the first break of the ring stands.
+// Where the first break of the ring stands.
 fn first_break(breaks: &Breaks, ring: &[Point]) -> usize
     requires { IsBroken breaks.now.ways.items breaks.now.loops.items ring.now }
     ensures within { result < length ring.now }
-    ensures break_there { (d : Place) → is_break breaks.now.ways.items breaks.now.loops.items (get_or ring.now result d) ≡ true }
+    ensures break_there { (d : Point) → is_break breaks.now.ways.items breaks.now.loops.items (get_or ring.now result d) ≡ true }
 {
     for at in 0..ring.len() {
         if breaks.has(&ring[at]) {
@@ -25,7 +25,7 @@ fn first_break(breaks: &Breaks, ring: &[Point]) -> usize
     unreachable!()
 }
 
-/// The points of the ring from that place on round, and that one again.
+// The points of the ring from that place on round, and that one again.
 fn round_from(alloc: Global, ring: &[Point], at: usize) -> Result<Vec<Point>, NoMemory>
     requires { at < length ring.now }
     ensures { IfOk result (λ round. round.items ≡ round_from ring.now at) }
@@ -35,11 +35,11 @@ fn round_from(alloc: Global, ring: &[Point], at: usize) -> Result<Vec<Point>, No
     Ok(round)
 }
 
-/// Cuts a path that begins and ends at breaks into its parts between them.
-fn cut(alloc: Global, breaks: &Breaks, path: &[Point]) -> Result<Vec<Vec<Point>>, NoMemory>
+// Cuts a path that begins and ends at breaks into its parts between them.
+fn parts_of(alloc: Global, breaks: &Breaks, path: &[Point]) -> Result<Vec<Vec<Point>>, NoMemory>
     requires long { 2 ≤ length path.now }
-    requires begins { (d : Place) → is_break breaks.now.ways.items breaks.now.loops.items (get_or path.now 0 d) ≡ true }
-    requires ends { (d : Place) → is_break breaks.now.ways.items breaks.now.loops.items (get_or path.now (length path.now - 1) d) ≡ true }
+    requires begins { (d : Point) → is_break breaks.now.ways.items breaks.now.loops.items (get_or path.now 0 d) ≡ true }
+    requires ends { (d : Point) → is_break breaks.now.ways.items breaks.now.loops.items (get_or path.now (length path.now - 1) d) ≡ true }
     ensures { IfOk result (λ chains. AreCuts (is_break breaks.now.ways.items breaks.now.loops.items) path.now (lists_of chains.items)) }
 {
     let mut chains = Vec::new(alloc);
@@ -66,5 +66,5 @@ pub fn chains_of(
 {
     let at = first_break(breaks, ring);
     let round = round_from(alloc, ring, at)?;
-    cut(alloc, breaks, &round)
+    parts_of(alloc, breaks, &round)
 }

@@ -1,4 +1,4 @@
-//! Where a ring without nodes is cut.
+// Where a ring without nodes is cut.
 ghost use Rattle.std.specs.Prelude.{◌≡◌, ◌<◌, false, IsTrue, length, All, Any, Contains, IfNone, IfSome, IfOk};
 ghost use Rattle.std.specs.List.Sorted.{IsSorted};
 ghost use Rattle.plane_edge.specs.Order.{is_below};
@@ -10,14 +10,14 @@ use agg_base::NoMemory;
 use plane_edge::Point;
 use std::alloc::Global;
 
-/// The lesser of the two points.
+// The lesser of the two points.
 fn lesser(one: Point, other: Point) -> Point
     ensures { result ≡ lesser one other }
 {
     if other < one { other } else { one }
 }
 
-/// The least point of a ring without nodes.
+// The least point of a ring without nodes.
 fn least_of_loop(ways: &[(Point, Point)], ring: &[Point]) -> Option<Point>
     requires sorted { IsSorted way_order ways.now }
     requires some { 0 < length ring.now }

@@ -1,4 +1,4 @@
-//! Nodes: points where the number of border edges is not two.
+// Nodes: points where the number of border edges is not two.
 ghost use Rattle.std.specs.Prelude.{◌≡◌, not, count_by};
 ghost use Rattle.std.specs.List.Sorted.{IsSorted};
 ghost use Rattle.plane_edge.specs.Order.{is_below};
@@ -7,7 +7,7 @@ ghost use Rattle.ring_arcs.specs.Ways.{way_order};
 
 use plane_edge::Point;
 
-/// How many ways leave lesser points.
+// How many ways leave lesser points.
 fn ways_before(ways: &[(Point, Point)], point: &Point) -> usize
     requires { IsSorted way_order ways.now }
     ensures { result ≡ count_by (λ w. is_below w.0 point.now) ways.now }
@@ -15,7 +15,7 @@ fn ways_before(ways: &[(Point, Point)], point: &Point) -> usize
     ways.partition_point(|way| way.0 < *point)
 }
 
-/// How many ways leave the point or lesser ones.
+// How many ways leave the point or lesser ones.
 fn ways_up_to(ways: &[(Point, Point)], point: &Point) -> usize
     requires { IsSorted way_order ways.now }
     ensures { result ≡ count_by (λ w. not (is_below point.now w.0)) ways.now }

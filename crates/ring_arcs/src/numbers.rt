@@ -1,37 +1,38 @@
-//! Rings as lists of arc numbers.
+// Rings as lists of arc numbers.
 ghost use Rattle.std.specs.Prelude.{◌≡◌, ◌<◌, ◌≤◌, ◌^◌, pos, negsuc, length, map, All, IfOk, get_or, []};
 ghost use Rattle.std.specs.Cmp.Lexicographic.{slice_cmp};
 ghost use Rattle.std.specs.List.Sorted.{IsStrictlySortedBy};
 ghost use Rattle.ring_arcs.specs.Breaks.{IsBroken};
 ghost use Rattle.ring_arcs.specs.Chains.{AreSymmetric, AreStored, IsCovered};
 ghost use Rattle.ring_arcs.specs.Numbers.{number_of, is_before, IsLeastAt, IsStoredIn};
-ghost use Rattle.ring_arcs.specs.RingArcs.{lists_of, arc_at, IsIndex, AreIndexesOf};
-ghost use Rattle.ring_arcs.specs.Rings.{IsRing};
-ghost use Rattle.ring_arcs.specs.Turning.{turned};
+ghost use Rattle.ring_arcs.specs.RingArcs.{arc_at, IsIndex, AreIndexesOf};
+ghost use Rattle.agg_base.specs.Lists.{lists_of};
+ghost use Rattle.plane_edge.specs.Rings.{IsRing};
+ghost use Rattle.ring_arcs.specs.Turning.{arc_of};
 ghost use Rattle.ring_arcs.specs.Ways.{point_order};
 
 use crate::breaks::Breaks;
 use crate::chains::chains_of;
-use crate::turning::{is_backward, turned};
+use crate::turning::{arc_of, is_backward};
 use agg_base::NoMemory;
 use plane_edge::Point;
 use std::alloc::Global;
 
-/// The number of the arc that the chain is stored as.
+// The number of the arc that the chain is stored as.
 fn number_in(alloc: Global, arcs: &[Vec<Point>], chain: &[Point]) -> Result<usize, NoMemory>
     requires rising { IsStrictlySortedBy (slice_cmp point_order) (lists_of arcs.now) }
     requires stored { IsStoredIn (lists_of arcs.now) chain.now }
     ensures within { IfOk result (λ i. i < length arcs.now) }
-    ensures found { IfOk result (λ i. get_or (lists_of arcs.now) i [] ≡ turned chain.now) }
+    ensures found { IfOk result (λ i. get_or (lists_of arcs.now) i [] ≡ arc_of chain.now) }
 {
-    let arc = turned(alloc, chain)?;
+    let arc = arc_of(alloc, chain)?;
     let Ok(number) = arcs.binary_search(&arc) else {
         unreachable!()
     };
     Ok(number)
 }
 
-/// The index that tells the arc of that number.
+// The index that tells the arc of that number.
 fn index_forwards(number: usize) -> i64
     requires { number < 2 ^ 63 }
     ensures { result ≡ pos number }
@@ -39,7 +40,7 @@ fn index_forwards(number: usize) -> i64
     number as i64
 }
 
-/// The index that tells the arc of that number backwards.
+// The index that tells the arc of that number backwards.
 fn index_backwards(number: usize) -> i64
     requires { number < 2 ^ 63 }
     ensures { result ≡ negsuc number }
@@ -47,7 +48,7 @@ fn index_backwards(number: usize) -> i64
     -(number as i64) - 1
 }
 
-/// The index of the arc that the chain is stored as.
+// The index of the arc that the chain is stored as.
 fn index_of(alloc: Global, arcs: &[Vec<Point>], chain: &[Point]) -> Result<i64, NoMemory>
     requires rising { IsStrictlySortedBy (slice_cmp point_order) (lists_of arcs.now) }
     requires stored { IsStoredIn (lists_of arcs.now) chain.now }
@@ -62,21 +63,21 @@ fn index_of(alloc: Global, arcs: &[Vec<Point>], chain: &[Point]) -> Result<i64, 
     }
 }
 
-/// The number of the arc that the index tells.
+// The number of the arc that the index tells.
 fn number_of(index: i64) -> i64
     ensures { result ≡ pos (number_of index) }
 {
     if index < 0 { -(index + 1) } else { index }
 }
 
-/// Whether the arc of the first index has a lesser number.
+// Whether the arc of the first index has a lesser number.
 fn is_before(one: &i64, other: &i64) -> bool
     ensures { result ≡ is_before one.now other.now }
 {
     number_of(*one) < number_of(*other)
 }
 
-/// Where the arc of least number stands.
+// Where the arc of least number stands.
 fn least_at(indexes: &[i64]) -> usize
     requires { 0 < length indexes.now }
     ensures within { result < length indexes.now }
@@ -91,7 +92,7 @@ fn least_at(indexes: &[i64]) -> usize
     best
 }
 
-/// The indexes of the chains, in their order.
+// The indexes of the chains, in their order.
 fn indexes_of_chains(
     alloc: Global,
     arcs: &[Vec<Point>],

@@ -1,8 +1,8 @@
-//! Worked values.
+// Worked values.
 ghost use Rattle.std.specs.Prelude.{◌≡◌, ◌<◌, ℕ, false, IsTrue, length, get_or, All};
 ghost use Rattle.plane_edge.specs.Edges.{is_same_point};
-ghost use Rattle.plane_edge.specs.declared.point.Point.{Point as Place};
-ghost use Rattle.ring_arcs.specs.Rings.{IsRing};
+ghost use Rattle.plane_edge.specs.declared.point.Point.{Point};
+ghost use Rattle.plane_edge.specs.Rings.{IsRing};
 
 use super::*;
 use crate::turning::is_same;
@@ -11,7 +11,7 @@ use std::alloc::Global;
 use std::process::Abort;
 use std::test::Fail;
 
-/// The points with these coordinates, x before y.
+// The points with these coordinates, x before y.
 fn path(rt: &impl Abort, alloc: Global, points: &[[i64; 2]]) -> Result<Vec<Point>, Fail> {
     let mut path = Vec::new(alloc);
     for point in points {
@@ -21,10 +21,10 @@ fn path(rt: &impl Abort, alloc: Global, points: &[[i64; 2]]) -> Result<Vec<Point
     Ok(path)
 }
 
-/// Whether no later point is the one at that place.
+// Whether no later point is the one at that place.
 fn is_apart(ring: &[Point], at: usize) -> bool
     requires { at < length ring.now }
-    ensures { IsTrue result → (j : ℕ) (d : Place) → at < j → j < length ring.now → is_same_point (get_or ring.now at d) (get_or ring.now j d) ≡ false }
+    ensures { IsTrue result → (j : ℕ) (d : Point) → at < j → j < length ring.now → is_same_point (get_or ring.now at d) (get_or ring.now j d) ≡ false }
 {
     for later in at + 1..ring.len() {
         if is_same(&ring[at], &ring[later]) {
@@ -34,7 +34,7 @@ fn is_apart(ring: &[Point], at: usize) -> bool
     true
 }
 
-/// Whether the points are a ring.
+// Whether the points are a ring.
 fn is_ring(ring: &[Point]) -> bool
     ensures { IsTrue result → IsRing ring.now }
 {
@@ -46,7 +46,7 @@ fn is_ring(ring: &[Point]) -> bool
     ring.len() >= 3
 }
 
-/// Whether all are rings.
+// Whether all are rings.
 fn are_rings(rings: &[Vec<Point>]) -> bool
     ensures { IsTrue result → All (λ ring. IsRing ring.items) rings.now }
 {
@@ -58,7 +58,7 @@ fn are_rings(rings: &[Vec<Point>]) -> bool
     true
 }
 
-/// Compares the arcs and the indexes of the rings with those that are wanted.
+// Compares the arcs and the indexes of the rings with those that are wanted.
 fn expect(
     rt: &impl Abort,
     alloc: Global,

@@ -1,9 +1,9 @@
-//! Which way a chain is stored.
+// Which way a chain is stored.
 ghost use Rattle.std.specs.Prelude.{◌≡◌, ◌≤◌, length, IfOk};
 ghost use Rattle.plane_edge.specs.Edges.{is_same_point};
 ghost use Rattle.plane_edge.specs.Order.{is_below};
-ghost use Rattle.plane_edge.specs.declared.point.Point.{Point as Place};
-ghost use Rattle.ring_arcs.specs.Turning.{is_backward, turned};
+ghost use Rattle.plane_edge.specs.declared.point.Point.{Point};
+ghost use Rattle.ring_arcs.specs.Turning.{is_backward, arc_of};
 
 use agg_base::NoMemory;
 use plane_edge::Point;
@@ -16,7 +16,7 @@ pub fn is_same(one: &Point, other: &Point) -> bool
     one == other
 }
 
-/// Whether the first point is the lesser one.
+// Whether the first point is the lesser one.
 fn is_less(one: &Point, other: &Point) -> bool
     ensures { result ≡ is_below one.now other.now }
 {
@@ -27,7 +27,7 @@ fn is_less(one: &Point, other: &Point) -> bool
 /// there from a lesser point than it goes to.
 pub fn is_backward(chain: &[Point]) -> bool
     requires { 2 ≤ length chain.now }
-    ensures { (d : Place) → result ≡ is_backward d chain.now }
+    ensures { (d : Point) → result ≡ is_backward d chain.now }
 {
     let count = chain.len();
     if is_same(&chain[0], &chain[count - 1]) {
@@ -39,9 +39,9 @@ pub fn is_backward(chain: &[Point]) -> bool
 
 /// The chain as it is stored: from its lesser end; where both ends are one point, first to the
 /// lesser of the two next points.
-pub fn turned(alloc: Global, chain: &[Point]) -> Result<Vec<Point>, NoMemory>
+pub fn arc_of(alloc: Global, chain: &[Point]) -> Result<Vec<Point>, NoMemory>
     requires { 2 ≤ length chain.now }
-    ensures { IfOk result (λ arc. arc.items ≡ turned chain.now) }
+    ensures { IfOk result (λ arc. arc.items ≡ arc_of chain.now) }
 {
     let mut arc = Vec::from_slice(alloc, chain)?;
     if is_backward(chain) {

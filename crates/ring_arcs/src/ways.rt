@@ -1,8 +1,8 @@
-//! Ways: each border edge from either end.
+// Ways: each border edge from either end.
 ghost use Rattle.std.specs.Prelude.{◌≡◌, ◌↔◌, Contains, IfOk};
 ghost use Rattle.std.specs.List.Sorted.{IsStrictlySortedBy};
-ghost use Rattle.plane_edge.specs.declared.point.Point.{Point as Place};
-ghost use Rattle.ring_arcs.specs.RingArcs.{lists_of};
+ghost use Rattle.plane_edge.specs.declared.point.Point.{Point};
+ghost use Rattle.agg_base.specs.Lists.{lists_of};
 ghost use Rattle.ring_arcs.specs.Rings.{steps_of_rings};
 ghost use Rattle.ring_arcs.specs.Ways.{both_ways, way_order, AreWaysOf};
 
@@ -10,7 +10,7 @@ use agg_base::NoMemory;
 use plane_edge::{Edge, Point, steps_of_rings};
 use std::alloc::Global;
 
-/// Both ways along each edge.
+// Both ways along each edge.
 fn both_ways(alloc: Global, edges: &[Edge]) -> Result<Vec<(Point, Point)>, NoMemory>
     ensures { IfOk result (λ ways. ways.items ≡ both_ways edges.now) }
 {
@@ -22,10 +22,10 @@ fn both_ways(alloc: Global, edges: &[Edge]) -> Result<Vec<(Point, Point)>, NoMem
     Ok(ways)
 }
 
-/// Sorts the ways, and keeps each once.
+// Sorts the ways, and keeps each once.
 fn sort_distinct(ways: &mut Vec<(Point, Point)>)
     ensures rising { IsStrictlySortedBy way_order ways.new.items }
-    ensures same { (w : Place × Place) → Contains ways.new.items w ↔ Contains ways.old.items w }
+    ensures same { (w : Point × Point) → Contains ways.new.items w ↔ Contains ways.old.items w }
 {
     ways.sort_unstable();
     ways.dedup();

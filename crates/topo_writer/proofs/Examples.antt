@@ -10,7 +10,7 @@ use Rattle.plane_edge.specs.declared.frame.Frame.TheVariants.{Scaled}
 use Rattle.plane_edge.specs.declared.point.Point.{Point}
 use Rattle.ring_arcs.specs.RingArcs.{IsIndex}
 use Rattle.arc_dissolve.specs.Drawing.{rings_in}
-use Rattle.arc_dissolve.specs.Shapes.{Figure, Drawn}
+use Rattle.arc_dissolve.specs.Shapes.{Shape, Regions}
 use Rattle.topo_writer.specs.Drawing.{IsClosedRing, IsWritableClass, IsWritable}
 
 small : (n : ℕ) → n < 3 → IsCoordinate (pos n)
@@ -34,7 +34,7 @@ right = low_middle ∷ at 2 0 (omega arith) (omega arith) ∷ at 2 1 (omega arit
 abbrev arcs : List (List Point)
 arcs = left ∷ right ∷ (low_middle ∷ high_middle ∷ []) ∷ []
 
-abbrev squares : Drawn
+abbrev squares : Regions
 squares = record {
   arcs = arcs;
   shapes = record { class = codes "1"; polygons = ((negsuc 0 ∷ pos 2 ∷ []) ∷ []) ∷ [] } ∷ record { class = codes "2"; polygons = ((pos 1 ∷ negsuc 2 ∷ []) ∷ []) ∷ [] } ∷ [];
@@ -69,10 +69,10 @@ one_digit c low = record { some = omega arith; few = omega arith; printed = all 
 -- the map may be written
 squares_are_writable : IsWritable squares (Scaled (codes "1") (codes "1") (codes "0") (codes "0"))
 squares_are_writable = record {
-  frame_is = record { scale_x = json_to (codes "1") refl; scale_y = json_to (codes "1") refl; move_x = json_to (codes "0") refl; move_y = json_to (codes "0") refl };
+  frame_is = (json_to (codes "1") refl, json_to (codes "1") refl, json_to (codes "0") refl, json_to (codes "0") refl);
   few_shapes = omega arith;
   few_steps = omega arith;
-  classes = all (λ (figure : Figure). IsWritableClass figure.class) squares.shapes (one_digit 49 (omega arith), (one_digit 50 (omega arith), tt));
+  classes = all (λ (shape : Shape). IsWritableClass shape.class) squares.shapes (one_digit 49 (omega arith), (one_digit 50 (omega arith), tt));
   long = all (λ arc. 2 ≤ length arc) arcs (omega arith, (omega arith, (omega arith, tt)));
-  rings = all (λ (figure : Figure). All (IsClosedRing arcs) (rings_in figure.polygons)) squares.shapes (alone (negsuc 0 ∷ pos 2 ∷ []) left_ring, (alone (pos 1 ∷ negsuc 2 ∷ []) right_ring, tt));
+  rings = all (λ (shape : Shape). All (IsClosedRing arcs) (rings_in shape.polygons)) squares.shapes (alone (negsuc 0 ∷ pos 2 ∷ []) left_ring, (alone (pos 1 ∷ negsuc 2 ∷ []) right_ring, tt));
 }

@@ -5,12 +5,12 @@ use Rattle.std.proofs.lemmas.Int.{ints}
 use Rattle.std.proofs.lemmas.List.{map-append}
 use Rattle.plane_edge.specs.Edges.{is_same_point}
 use Rattle.plane_edge.specs.Order.{is_below}
-use Rattle.plane_edge.specs.Rings.{Outline, ends_of, in_order, step_between, path_from, steps_of_ring}
+use Rattle.plane_edge.specs.Rings.{Area, ends_of, in_order, step_between, path_from, steps_of_ring}
 use Rattle.plane_edge.specs.declared.edge.Edge.{Edge}
 use Rattle.plane_edge.specs.declared.point.Point.{Point}
-use Rattle.arc_dissolve.specs.Shapes.{Figure}
+use Rattle.arc_dissolve.specs.Shapes.{Shape}
 use Rattle.arc_dissolve.specs.Drawing.{rings_in}
-use Rattle.arc_dissolve.specs.Rings.{told}
+use Rattle.arc_dissolve.specs.Rings.{points_round}
 use Rattle.topo_writer.specs.Drawing.{IsAreaOf}
 
 -- edges with these ends
@@ -45,13 +45,13 @@ ring_has : (ring : List Point) → HasEdges (steps_of_ring ring)
 ring_has [] = ([], refl)
 ring_has (p ∷ ps) = path_has p (ps ++ p ∷ [])
 
-rings_have : (arcs : List (List Point)) (rings : List (List ℤ)) → HasEdges (flat_map (λ ring. steps_of_ring (told arcs ring)) rings)
+rings_have : (arcs : List (List Point)) (rings : List (List ℤ)) → HasEdges (flat_map (λ ring. steps_of_ring (points_round arcs ring)) rings)
 rings_have arcs [] = ([], refl)
-rings_have arcs (ring ∷ rings) = both_have (steps_of_ring (told arcs ring)) (flat_map (λ ring. steps_of_ring (told arcs ring)) rings) (ring_has (told arcs ring)) (rings_have arcs rings)
+rings_have arcs (ring ∷ rings) = both_have (steps_of_ring (points_round arcs ring)) (flat_map (λ ring. steps_of_ring (points_round arcs ring)) rings) (ring_has (points_round arcs ring)) (rings_have arcs rings)
 
-pub areas_of : (arcs : List (List Point)) (figures : List Figure) → (areas : List Outline) × AllZip (IsAreaOf arcs) figures areas
+pub areas_of : (arcs : List (List Point)) (shapes : List Shape) → (areas : List Area) × AllZip (IsAreaOf arcs) shapes areas
 areas_of arcs [] = ([], tt)
-areas_of arcs (figure ∷ figures) =
-    let edges = rings_have arcs (rings_in figure.polygons) in
-    let more = areas_of arcs figures in
-    (record { class = figure.class; steps = edges.0 } ∷ more.0, (record { class_is = refl; steps_are = edges.1 }, more.1))
+areas_of arcs (shape ∷ shapes) =
+    let edges = rings_have arcs (rings_in shape.polygons) in
+    let more = areas_of arcs shapes in
+    (record { class = shape.class; steps = edges.0 } ∷ more.0, (record { class_is = refl; steps_are = edges.1 }, more.1))

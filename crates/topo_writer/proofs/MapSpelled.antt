@@ -2,7 +2,7 @@
 use Rattle.std.proofs.Common.{◌<◌, ◌^◌, length, All}
 use Rattle.std.specs.Str.{IsUtf8}
 use Rattle.plane_edge.specs.declared.frame.Frame.{Frame}
-use Rattle.arc_dissolve.specs.Shapes.{Figure, Drawn}
+use Rattle.arc_dissolve.specs.Shapes.{Shape, Regions}
 use Rattle.topo_writer.specs.MapText.{map_text}
 use Rattle.topo_writer.specs.Drawing.{IsWritable, SpellsDrawn}
 use Rattle.topo_writer.proofs.MapTree.{tree_of}
@@ -10,13 +10,13 @@ use Rattle.topo_writer.proofs.TreeText.{tree_is_spelled}
 use Rattle.topo_writer.proofs.MapTopology.{tree_spells}
 use Rattle.topo_writer.proofs.MapAreas.{areas_of}
 
-pub map_is_spelled : (drawn : Drawn) (frame : Frame) → IsWritable drawn frame → length drawn.arcs < 2 ^ 64 → All (λ (figure : Figure). IsUtf8 figure.class) drawn.shapes → SpellsDrawn (map_text drawn frame) drawn frame
-map_is_spelled drawn frame is few utf8 =
-    let areas = areas_of drawn.arcs drawn.shapes in
+pub map_is_spelled : (regions : Regions) (frame : Frame) → IsWritable regions frame → length regions.arcs < 2 ^ 64 → All (λ (shape : Shape). IsUtf8 shape.class) regions.shapes → SpellsDrawn (map_text regions frame) regions frame
+map_is_spelled regions frame is few utf8 =
+    let areas = areas_of regions.arcs regions.shapes in
     record {
-      tree = tree_of drawn frame;
+      tree = tree_of regions frame;
       areas = areas.0;
       are = areas.1;
-      text = tree_is_spelled drawn frame is few utf8;
-      topology = tree_spells drawn frame is few areas.0 areas.1;
+      text = tree_is_spelled regions frame is few utf8;
+      topology = tree_spells regions frame is few areas.0 areas.1;
     }

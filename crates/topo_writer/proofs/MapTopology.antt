@@ -9,22 +9,23 @@ use Rattle.std.proofs.lemmas.List.Elements.{recursion_from_All}
 use Rattle.std.proofs.lemmas.List.Sums.{sum_by-cons}
 use Rattle.std.proofs.lemmas.Grind.{flat_map-append}
 use Rattle.json_text.specs.Tree.{Json, Str, array, object, member_of}
-use Rattle.plane_edge.specs.Rings.{Outline, ends_of, steps_of_ring, step_count}
+use Rattle.plane_edge.specs.Rings.{Area, ends_of, steps_of_ring, step_count}
 use Rattle.plane_edge.specs.declared.frame.Frame.{Frame}
 use Rattle.plane_edge.specs.declared.frame.Frame.TheVariants.{Plain, Scaled}
 use Rattle.plane_edge.specs.declared.point.Point.{Point}
 use Rattle.ring_arcs.specs.RingArcs.{IsIndex, arc_at}
 use Rattle.topo_reader.specs.Arcs.{is_relative, SpellsFrame, SpellsPosition, SpellPoints, SpellsArc}
-use Rattle.topo_reader.specs.Rings.{joined, SpellsPath, SpellsRing, SpellsPolygon, polygons}
+use Rattle.topo_reader.specs.Rings.{SpellsPath, SpellsRing, SpellsPolygon, polygons}
+use Rattle.plane_edge.specs.Paths.{points_along}
 use Rattle.topo_reader.specs.Topology.{by_text, is_passed, SpellsArea, collection, SpellsTopology}
 use Rattle.arc_dissolve.specs.Drawing.{rings_in, steps_of}
-use Rattle.arc_dissolve.specs.Rings.{told}
-use Rattle.arc_dissolve.specs.Shapes.{Figure, Drawn}
+use Rattle.arc_dissolve.specs.Rings.{points_round}
+use Rattle.arc_dissolve.specs.Shapes.{Shape, Regions}
 use Rattle.topo_writer.specs.MapText.{step_to, steps_from, positions_of}
 use Rattle.topo_writer.specs.Drawing.{IsClosedRing, IsWritableClass, IsWritable, IsAreaOf}
 use Rattle.topo_writer.proofs.Numerals.{spells_whole}
 use Rattle.topo_writer.proofs.MapTree.{number, position_tree, arc_tree, ring_tree, polygon_tree, geometry_tree, geometry_trees, collection_of, objects_of, transform_of, tree_of}
-use Rattle.topo_writer.proofs.RingPoints.{path_is, are_joined, ring_steps}
+use Rattle.topo_writer.proofs.RingPoints.{path_is, ring_steps}
 use Rattle.topo_writer.proofs.TreeText.{AreSmall, small_step, coordinate_fits, index_fits, AreClosed, closed_parts}
 
 -- ---- arcs
@@ -100,7 +101,7 @@ arcs_spelled relative (arc ∷ arcs) long = (arc_spelled relative arc long.0, ar
 -- ---- rings
 
 abbrev points_of : List (List Point) → List ℤ → List Point
-points_of arcs indexes = joined (map (arc_at arcs) indexes)
+points_of arcs indexes = points_along (map (arc_at arcs) indexes)
 
 paths_spelled : (arcs : List (List Point)) → length arcs < 2 ^ 64 → (indexes : List ℤ) → AllByRecursion (IsIndex arcs) indexes → AllZip (SpellsPath arcs) (map number indexes) (map (arc_at arcs) indexes)
 paths_spelled arcs few [] is = tt
@@ -123,7 +124,7 @@ ring_spelled arcs few indexes closed = record {
   list = refl;
   some = omega (arith, closed.some, length-map indexes number);
   told = paths_spelled arcs few indexes (recursion_from_All (IsIndex arcs) indexes closed.in_range);
-  closed = are_joined _ _ _ closed.closed.1;
+  closed = closed.closed.1;
   ring_is = refl;
 }
 
@@ -147,96 +148,96 @@ polygons_spelled arcs few (polygon ∷ parts) closed = (
 )
 
 -- the points of all rings of a region, each told with its first point at the end again
-abbrev outlines_of : List (List Point) → Figure → List (List Point)
-outlines_of arcs figure = flat_map (λ rings. rings) (map (λ polygon. map (points_of arcs) polygon) figure.polygons)
+abbrev outlines_of : List (List Point) → Shape → List (List Point)
+outlines_of arcs shape = flat_map (λ rings. rings) (map (λ polygon. map (points_of arcs) polygon) shape.polygons)
 
 ring_steps_of : (arcs : List (List Point)) → All (λ arc. 2 ≤ length arc) arcs → (rings : List (List ℤ)) → AllByRecursion (IsClosedRing arcs) rings
-    → flat_map steps_of_ring (map (points_of arcs) rings) ≡ flat_map (λ ring. steps_of_ring (told arcs ring)) rings
+    → flat_map steps_of_ring (map (points_of arcs) rings) ≡ flat_map (λ ring. steps_of_ring (points_round arcs ring)) rings
 ring_steps_of arcs long [] closed = refl
 ring_steps_of arcs long (ring ∷ rings) closed =
     ap₂ (λ (a b : List (Point × Point)). a ++ b) (ring_steps arcs long ring (recursion_from_All (IsIndex arcs) ring closed.0.in_range) closed.0) (ring_steps_of arcs long rings closed.1)
 
 polygon_steps_of : (arcs : List (List Point)) → All (λ arc. 2 ≤ length arc) arcs → (parts : List (List (List ℤ))) → AllByRecursion (AreClosedRings arcs) parts
-    → flat_map steps_of_ring (flat_map (λ rings. rings) (map (λ polygon. map (points_of arcs) polygon) parts)) ≡ flat_map (λ ring. steps_of_ring (told arcs ring)) (rings_in parts)
+    → flat_map steps_of_ring (flat_map (λ rings. rings) (map (λ polygon. map (points_of arcs) polygon) parts)) ≡ flat_map (λ ring. steps_of_ring (points_round arcs ring)) (rings_in parts)
 polygon_steps_of arcs long [] closed = refl
 polygon_steps_of arcs long (polygon ∷ parts) closed =
     flat_map-append steps_of_ring (map (points_of arcs) polygon) (flat_map (λ rings. rings) (map (λ polygon. map (points_of arcs) polygon) parts))
     ∙ ap₂ (λ (a b : List (Point × Point)). a ++ b) (ring_steps_of arcs long polygon closed.0) (polygon_steps_of arcs long parts closed.1)
-    ∙ sym (flat_map-append (λ ring. steps_of_ring (told arcs ring)) polygon (rings_in parts))
+    ∙ sym (flat_map-append (λ ring. steps_of_ring (points_round arcs ring)) polygon (rings_in parts))
 
 -- ---- areas
 
-area_spelled : (arcs : List (List Point)) → length arcs < 2 ^ 64 → All (λ arc. 2 ≤ length arc) arcs → (region : ℕ) (figure : Figure) → IsWritableClass figure.class → AreClosed arcs figure
-    → (area : Outline) → IsAreaOf arcs figure area → SpellsArea arcs (codes "class") (geometry_tree region figure) area
-area_spelled arcs few long region figure class closed area is =
-    let parts = closed_parts arcs figure closed in
+area_spelled : (arcs : List (List Point)) → length arcs < 2 ^ 64 → All (λ arc. 2 ≤ length arc) arcs → (region : ℕ) (shape : Shape) → IsWritableClass shape.class → AreClosed arcs shape
+    → (area : Area) → IsAreaOf arcs shape area → SpellsArea arcs (codes "class") (geometry_tree region shape) area
+area_spelled arcs few long region shape class closed area is =
+    let parts = closed_parts arcs shape closed in
     record {
-      properties = object ((codes "class", Str figure.class) ∷ []);
-      value = Str figure.class;
-      rings = outlines_of arcs figure;
+      properties = object ((codes "class", Str shape.class) ∷ []);
+      value = Str shape.class;
+      rings = outlines_of arcs shape;
       properties_are = refl;
       value_is = refl;
       class_is = by_text (ap Str (sym is.class_is)) (subst (λ c. 1 ≤ length c) (sym is.class_is) class.some) (subst (λ c. length c ≤ 100) (sym is.class_is) class.few);
-      rings_are = polygons (map polygon_tree figure.polygons) (map (λ polygon. map (points_of arcs) polygon) figure.polygons) refl refl (polygons_spelled arcs few figure.polygons parts) refl;
-      steps_are = is.steps_are ∙ sym (polygon_steps_of arcs long figure.polygons parts);
+      rings_are = polygons (map polygon_tree shape.polygons) (map (λ polygon. map (points_of arcs) polygon) shape.polygons) refl refl (polygons_spelled arcs few shape.polygons parts) refl;
+      steps_are = is.steps_are ∙ sym (polygon_steps_of arcs long shape.polygons parts);
     }
 
-areas_spelled : (arcs : List (List Point)) → length arcs < 2 ^ 64 → All (λ arc. 2 ≤ length arc) arcs → (region : ℕ) (figures : List Figure) → AllByRecursion (λ figure. IsWritableClass figure.class) figures → AllByRecursion (AreClosed arcs) figures
-    → (areas : List Outline) → AllZip (IsAreaOf arcs) figures areas → AllZip (SpellsArea arcs (codes "class")) (filter (λ place. not (is_passed place)) (geometry_trees region figures)) areas
+areas_spelled : (arcs : List (List Point)) → length arcs < 2 ^ 64 → All (λ arc. 2 ≤ length arc) arcs → (region : ℕ) (shapes : List Shape) → AllByRecursion (λ shape. IsWritableClass shape.class) shapes → AllByRecursion (AreClosed arcs) shapes
+    → (areas : List Area) → AllZip (IsAreaOf arcs) shapes areas → AllZip (SpellsArea arcs (codes "class")) (filter (λ place. not (is_passed place)) (geometry_trees region shapes)) areas
 areas_spelled arcs few long region [] classes closed [] are = tt
 areas_spelled arcs few long region [] classes closed (area ∷ areas) are = absurd are
-areas_spelled arcs few long region (figure ∷ figures) classes closed [] are = absurd are
-areas_spelled arcs few long region (figure ∷ figures) classes closed (area ∷ areas) are =
-    (area_spelled arcs few long region figure classes.0 closed.0 area are.0, areas_spelled arcs few long (region + 1) figures classes.1 closed.1 areas are.1)
+areas_spelled arcs few long region (shape ∷ shapes) classes closed [] are = absurd are
+areas_spelled arcs few long region (shape ∷ shapes) classes closed (area ∷ areas) are =
+    (area_spelled arcs few long region shape classes.0 closed.0 area are.0, areas_spelled arcs few long (region + 1) shapes classes.1 closed.1 areas are.1)
 
-none_passed : (region : ℕ) (figures : List Figure) → 0 ≡ count_by is_passed (geometry_trees region figures)
+none_passed : (region : ℕ) (shapes : List Shape) → 0 ≡ count_by is_passed (geometry_trees region shapes)
 none_passed region [] = refl
-none_passed region (figure ∷ figures) = none_passed (region + 1) figures
+none_passed region (shape ∷ shapes) = none_passed (region + 1) shapes
 
-count_is : (arcs : List (List Point)) (figures : List Figure) (areas : List Outline) → AllZip (IsAreaOf arcs) figures areas → length areas ≡ length figures
+count_is : (arcs : List (List Point)) (shapes : List Shape) (areas : List Area) → AllZip (IsAreaOf arcs) shapes areas → length areas ≡ length shapes
 count_is arcs [] [] are = refl
 count_is arcs [] (area ∷ areas) are = absurd are
-count_is arcs (figure ∷ figures) [] are = absurd are
-count_is arcs (figure ∷ figures) (area ∷ areas) are = ap suc (count_is arcs figures areas are.1)
+count_is arcs (shape ∷ shapes) [] are = absurd are
+count_is arcs (shape ∷ shapes) (area ∷ areas) are = ap suc (count_is arcs shapes areas are.1)
 
-step_count_is : (arcs : List (List Point)) (figures : List Figure) (areas : List Outline) → AllZip (IsAreaOf arcs) figures areas → step_count areas ≡ sum_by (λ figure. length (steps_of arcs figure)) figures
+step_count_is : (arcs : List (List Point)) (shapes : List Shape) (areas : List Area) → AllZip (IsAreaOf arcs) shapes areas → step_count areas ≡ sum_by (λ shape. length (steps_of arcs shape)) shapes
 step_count_is arcs [] [] are = refl
 step_count_is arcs [] (area ∷ areas) are = absurd are
-step_count_is arcs (figure ∷ figures) [] are = absurd are
-step_count_is arcs (figure ∷ figures) (area ∷ areas) are =
-    sum_by-cons (λ (a : Outline). length a.steps) area areas
-    ∙ ap₂ (λ m n. m + n) (sym (length-map area.steps ends_of) ∙ ap length are.0.steps_are) (step_count_is arcs figures areas are.1)
-    ∙ sym (sum_by-cons (λ figure. length (steps_of arcs figure)) figure figures)
+step_count_is arcs (shape ∷ shapes) [] are = absurd are
+step_count_is arcs (shape ∷ shapes) (area ∷ areas) are =
+    sum_by-cons (λ (a : Area). length a.steps) area areas
+    ∙ ap₂ (λ m n. m + n) (sym (length-map area.steps ends_of) ∙ ap length are.0.steps_are) (step_count_is arcs shapes areas are.1)
+    ∙ sym (sum_by-cons (λ shape. length (steps_of arcs shape)) shape shapes)
 
-spelled_by : (drawn : Drawn) (frame : Frame) → IsWritable drawn frame → length drawn.arcs < 2 ^ 64 → (areas : List Outline) → AllZip (IsAreaOf drawn.arcs) drawn.shapes areas
+spelled_by : (regions : Regions) (frame : Frame) → IsWritable regions frame → length regions.arcs < 2 ^ 64 → (areas : List Area) → AllZip (IsAreaOf regions.arcs) regions.shapes areas
     → (tree : Json) → member_of tree (codes "type") ≡ Some (Str (codes "Topology")) → SpellsFrame tree frame
-    → member_of tree (codes "objects") ≡ Some (objects_of (array (geometry_trees 0 drawn.shapes))) → member_of tree (codes "arcs") ≡ Some (array (map (arc_tree (is_relative frame)) drawn.arcs))
+    → member_of tree (codes "objects") ≡ Some (objects_of (array (geometry_trees 0 regions.shapes))) → member_of tree (codes "arcs") ≡ Some (array (map (arc_tree (is_relative frame)) regions.arcs))
     → SpellsTopology tree (codes "class") (Some (codes "regions")) (record { areas = areas; passed = 0; frame = frame })
-spelled_by drawn frame is few areas are tree type_is frame_is objects_are parts_are =
-    let figures = drawn.shapes in
-    let classes = recursion_from_All (λ (figure : Figure). IsWritableClass figure.class) figures is.classes in
-    let closed = recursion_from_All (AreClosed drawn.arcs) figures is.rings in
+spelled_by regions frame is few areas are tree type_is frame_is objects_are parts_are =
+    let shapes = regions.shapes in
+    let classes = recursion_from_All (λ (shape : Shape). IsWritableClass shape.class) shapes is.classes in
+    let closed = recursion_from_All (AreClosed regions.arcs) shapes is.rings in
     record {
-      objects = objects_of (array (geometry_trees 0 figures));
-      picked = collection_of (array (geometry_trees 0 figures));
-      places = geometry_trees 0 figures;
-      parts = map (arc_tree (is_relative frame)) drawn.arcs;
-      arcs = drawn.arcs;
+      objects = objects_of (array (geometry_trees 0 shapes));
+      picked = collection_of (array (geometry_trees 0 shapes));
+      places = geometry_trees 0 shapes;
+      parts = map (arc_tree (is_relative frame)) regions.arcs;
+      arcs = regions.arcs;
       type_is = type_is;
       frame_is = frame_is;
       objects_are = objects_are;
       picked_is = refl;
       parts_are = parts_are;
-      arcs_are = arcs_spelled (is_relative frame) drawn.arcs (recursion_from_All (λ arc. 2 ≤ length arc) drawn.arcs is.long);
+      arcs_are = arcs_spelled (is_relative frame) regions.arcs (recursion_from_All (λ arc. 2 ≤ length arc) regions.arcs is.long);
       places_are = collection refl refl;
-      areas_are = areas_spelled drawn.arcs few is.long 0 figures classes closed areas are;
-      passed_is = none_passed 0 figures;
-      few_areas = omega (arith, count_is drawn.arcs figures areas are, is.few_shapes);
-      few_steps = omega (arith, step_count_is drawn.arcs figures areas are, is.few_steps);
+      areas_are = areas_spelled regions.arcs few is.long 0 shapes classes closed areas are;
+      passed_is = none_passed 0 shapes;
+      few_areas = omega (arith, count_is regions.arcs shapes areas are, is.few_shapes);
+      few_steps = omega (arith, step_count_is regions.arcs shapes areas are, is.few_steps);
     }
 
-pub tree_spells : (drawn : Drawn) (frame : Frame) → IsWritable drawn frame → length drawn.arcs < 2 ^ 64 → (areas : List Outline) → AllZip (IsAreaOf drawn.arcs) drawn.shapes areas
-    → SpellsTopology (tree_of drawn frame) (codes "class") (Some (codes "regions")) (record { areas = areas; passed = 0; frame = frame })
-tree_spells drawn Plain is few areas are = spelled_by drawn Plain is few areas are (tree_of drawn Plain) refl refl refl refl
-tree_spells drawn (Scaled sx sy tx ty) is few areas are =
-    spelled_by drawn (Scaled sx sy tx ty) is few areas are (tree_of drawn (Scaled sx sy tx ty)) refl (transform_of sx sy tx ty, refl, record { scale = refl; translate = refl }) refl refl
+pub tree_spells : (regions : Regions) (frame : Frame) → IsWritable regions frame → length regions.arcs < 2 ^ 64 → (areas : List Area) → AllZip (IsAreaOf regions.arcs) regions.shapes areas
+    → SpellsTopology (tree_of regions frame) (codes "class") (Some (codes "regions")) (record { areas = areas; passed = 0; frame = frame })
+tree_spells regions Plain is few areas are = spelled_by regions Plain is few areas are (tree_of regions Plain) refl refl refl refl
+tree_spells regions (Scaled sx sy tx ty) is few areas are =
+    spelled_by regions (Scaled sx sy tx ty) is few areas are (tree_of regions (Scaled sx sy tx ty)) refl (transform_of sx sy tx ty, refl, record { scale = refl; translate = refl }) refl refl

@@ -2,14 +2,14 @@
 use Rattle.std.proofs.Common.{◌≡◌, ℕ, ◌+◌, Bool, List, [], ◌∷◌, ◌++◌, map, flat_map, ℤ, refl, ap, ap₂, ◌∙◌, append_assoc, append-nil}
 use Rattle.std.specs.Prelude.{codes}
 use Rattle.std.specs.Fmt.{decimal, signed_decimal}
-use Rattle.json_text.specs.Strings.{escaped}
+use Rattle.json_text.specs.Strings.{escape}
 use Rattle.json_text.specs.Tree.{Json, Number, Str, Items, items_of, Array, array, object}
 use Rattle.json_text.proofs.CompactText.{compact, compact_items, compact_more_items}
 use Rattle.plane_edge.specs.declared.frame.Frame.{Frame}
 use Rattle.plane_edge.specs.declared.frame.Frame.TheVariants.{Plain, Scaled}
 use Rattle.plane_edge.specs.declared.point.Point.{Point}
 use Rattle.topo_reader.specs.Arcs.{is_relative}
-use Rattle.arc_dissolve.specs.Shapes.{Figure, Drawn}
+use Rattle.arc_dissolve.specs.Shapes.{Shape, Regions}
 use Rattle.topo_writer.specs.MapText.{commas, ring_text, polygon_text, geometry_text, more_geometries, geometries_text, positions_of, position_text, arc_text, transform_text, map_text}
 
 abbrev pub number : ℤ → Json
@@ -37,13 +37,13 @@ geometry_of region class polygons =
     ∷ []
     )
 
-abbrev pub geometry_tree : ℕ → Figure → Json
-geometry_tree region figure = geometry_of (decimal region) figure.class (array (map polygon_tree figure.polygons))
+abbrev pub geometry_tree : ℕ → Shape → Json
+geometry_tree region shape = geometry_of (decimal region) shape.class (array (map polygon_tree shape.polygons))
 
 -- the regions, the first of which has that number
-abbrev pub geometry_trees : ℕ → List Figure → List Json
+abbrev pub geometry_trees : ℕ → List Shape → List Json
 geometry_trees region [] = []
-geometry_trees region (figure ∷ figures) = geometry_tree region figure ∷ geometry_trees (region + 1) figures
+geometry_trees region (shape ∷ shapes) = geometry_tree region shape ∷ geometry_trees (region + 1) shapes
 
 abbrev pub collection_of : Json → Json
 collection_of geometries = object ((codes "type", Str (codes "GeometryCollection")) ∷ (codes "geometries", geometries) ∷ [])
@@ -70,8 +70,8 @@ topology_of Plain geometries arcs =
     object ((codes "type", Str (codes "Topology")) ∷ (codes "objects", objects_of geometries) ∷ (codes "arcs", arcs) ∷ [])
 topology_of (Scaled sx sy tx ty) geometries arcs = scaled_topology (transform_of sx sy tx ty) geometries arcs
 
-abbrev pub tree_of : Drawn → Frame → Json
-tree_of drawn frame = topology_of frame (array (geometry_trees 0 drawn.shapes)) (array (map (arc_tree (is_relative frame)) drawn.arcs))
+abbrev pub tree_of : Regions → Frame → Json
+tree_of regions frame = topology_of frame (array (geometry_trees 0 regions.shapes)) (array (map (arc_tree (is_relative frame)) regions.arcs))
 
 -- ---- its text
 
@@ -102,22 +102,22 @@ polygon_is : (rings : List (List ℤ)) → compact (polygon_tree rings) ≡ poly
 polygon_is rings = bracketed_is _ _ (listed ring_tree ring_text ring_is rings)
 
 geometry_pieces : (region class : List ℕ) (items : Items) → compact (geometry_of region class (Array items))
-    ≡ codes "{\"type\":\"MultiPolygon\",\"id\":" ++ region ++ codes ",\"properties\":{\"class\":\"" ++ escaped class ++ codes "\"},\"arcs\":[" ++ compact_items items ++ codes "]}"
+    ≡ codes "{\"type\":\"MultiPolygon\",\"id\":" ++ region ++ codes ",\"properties\":{\"class\":\"" ++ escape class ++ codes "\"},\"arcs\":[" ++ compact_items items ++ codes "]}"
 geometry_pieces region class items = simp (append_assoc, append-nil)
 
-geometry_is : (region : ℕ) (figure : Figure) → compact (geometry_tree region figure) ≡ geometry_text region figure
+geometry_is : (region : ℕ) (shape : Shape) → compact (geometry_tree region shape) ≡ geometry_text region shape
 unfolding geometry_text
-geometry_is region figure =
-    geometry_pieces (decimal region) figure.class (items_of (map polygon_tree figure.polygons))
-    ∙ ap (λ (t : List ℕ). codes "{\"type\":\"MultiPolygon\",\"id\":" ++ decimal region ++ codes ",\"properties\":{\"class\":\"" ++ escaped figure.class ++ codes "\"},\"arcs\":[" ++ t ++ codes "]}") (listed polygon_tree polygon_text polygon_is figure.polygons)
+geometry_is region shape =
+    geometry_pieces (decimal region) shape.class (items_of (map polygon_tree shape.polygons))
+    ∙ ap (λ (t : List ℕ). codes "{\"type\":\"MultiPolygon\",\"id\":" ++ decimal region ++ codes ",\"properties\":{\"class\":\"" ++ escape shape.class ++ codes "\"},\"arcs\":[" ++ t ++ codes "]}") (listed polygon_tree polygon_text polygon_is shape.polygons)
 
-more_geometries_are : (region : ℕ) (figures : List Figure) → compact_more_items (items_of (geometry_trees region figures)) ≡ more_geometries region figures
+more_geometries_are : (region : ℕ) (shapes : List Shape) → compact_more_items (items_of (geometry_trees region shapes)) ≡ more_geometries region shapes
 more_geometries_are region [] = refl
-more_geometries_are region (figure ∷ figures) = ap₂ (λ (a b : List ℕ). 44 ∷ (a ++ b)) (geometry_is region figure) (more_geometries_are (region + 1) figures)
+more_geometries_are region (shape ∷ shapes) = ap₂ (λ (a b : List ℕ). 44 ∷ (a ++ b)) (geometry_is region shape) (more_geometries_are (region + 1) shapes)
 
-geometries_are : (figures : List Figure) → compact_items (items_of (geometry_trees 0 figures)) ≡ geometries_text figures
+geometries_are : (shapes : List Shape) → compact_items (items_of (geometry_trees 0 shapes)) ≡ geometries_text shapes
 geometries_are [] = refl
-geometries_are (figure ∷ figures) = ap₂ (λ (a b : List ℕ). a ++ b) (geometry_is 0 figure) (more_geometries_are 1 figures)
+geometries_are (shape ∷ shapes) = ap₂ (λ (a b : List ℕ). a ++ b) (geometry_is 0 shape) (more_geometries_are 1 shapes)
 
 transform_pieces : (sx sy tx ty : List ℕ) → compact (transform_of sx sy tx ty) ≡ codes "{\"scale\":[" ++ (sx ++ 44 ∷ sy) ++ codes "],\"translate\":[" ++ (tx ++ 44 ∷ ty) ++ codes "]}"
 transform_pieces sx sy tx ty =
@@ -165,9 +165,9 @@ topology_pieces (Scaled sx sy tx ty) geometries arcs =
     ∙ regroup (codes "{\"type\":\"Topology\",") (codes "\"transform\":") (compact (transform_of sx sy tx ty)) (codes ",") (codes "\"objects\":{\"regions\":{\"type\":\"GeometryCollection\",\"geometries\":[") g (codes "]}},\"arcs\":[") a (codes "]}\n")
     ∙ ap (λ (t : List ℕ). codes "{\"type\":\"Topology\"," ++ t ++ codes "\"objects\":{\"regions\":{\"type\":\"GeometryCollection\",\"geometries\":[" ++ g ++ codes "]}},\"arcs\":[" ++ a ++ codes "]}\n") (transform_text_is sx sy tx ty)
 
-pub text_is : (drawn : Drawn) (frame : Frame) → compact (tree_of drawn frame) ++ 10 ∷ [] ≡ map_text drawn frame
+pub text_is : (regions : Regions) (frame : Frame) → compact (tree_of regions frame) ++ 10 ∷ [] ≡ map_text regions frame
 unfolding map_text
-text_is drawn frame =
-    topology_pieces frame (items_of (geometry_trees 0 drawn.shapes)) (items_of (map (arc_tree (is_relative frame)) drawn.arcs))
+text_is regions frame =
+    topology_pieces frame (items_of (geometry_trees 0 regions.shapes)) (items_of (map (arc_tree (is_relative frame)) regions.arcs))
     ∙ ap₂ (λ (g a : List ℕ). codes "{\"type\":\"Topology\"," ++ transform_text frame ++ codes "\"objects\":{\"regions\":{\"type\":\"GeometryCollection\",\"geometries\":[" ++ g ++ codes "]}},\"arcs\":[" ++ a ++ codes "]}\n")
-    (geometries_are drawn.shapes) (listed (arc_tree (is_relative frame)) (arc_text (is_relative frame)) (arc_is (is_relative frame)) drawn.arcs)
+    (geometries_are regions.shapes) (listed (arc_tree (is_relative frame)) (arc_text (is_relative frame)) (arc_is (is_relative frame)) regions.arcs)

@@ -3,7 +3,7 @@ use Rattle.std.proofs.Common.{◌≡◌, ℕ, suc, ◌+◌, ◌-◌, ◌<◌, Bo
 use Rattle.std.proofs.lemmas.List.{take_all}
 use Rattle.std.proofs.lemmas.List.Elements.{All-more, All-cons}
 use Rattle.plane_edge.specs.declared.point.Point.{Point}
-use Rattle.arc_dissolve.specs.Shapes.{Figure}
+use Rattle.arc_dissolve.specs.Shapes.{Shape}
 use Rattle.topo_writer.specs.MapText.{step_to, steps_from, position_text, geometry_text, more_geometries}
 
 -- what one more piece makes of a text
@@ -33,15 +33,15 @@ steps_more relative before p rest i all front comma new h e left one now =
     ∙ left
 
 -- one more region
-pub geometries_more : (shapes : List Figure) (i : ℕ) (figure : Figure) (region : ℕ) (all front comma new : List ℕ) → i < length shapes → figure ≡ get_or shapes i figure
-    → front ++ more_geometries region (drop i shapes) ≡ all → comma ≡ front ++ 44 ∷ [] → new ≡ comma ++ geometry_text region figure
+pub geometries_more : (shapes : List Shape) (i : ℕ) (shape : Shape) (region : ℕ) (all front comma new : List ℕ) → i < length shapes → shape ≡ get_or shapes i shape
+    → front ++ more_geometries region (drop i shapes) ≡ all → comma ≡ front ++ 44 ∷ [] → new ≡ comma ++ geometry_text region shape
     → new ++ more_geometries (region + 1) (drop (i + 1) shapes) ≡ all
-geometries_more shapes i figure region all front comma new h e left one now =
-    let piece = geometry_text region figure in
+geometries_more shapes i shape region all front comma new h e left one now =
+    let piece = geometry_text region shape in
     let more = more_geometries (region + 1) (drop (i + 1) shapes) in
     ap (λ t. t ++ more) (behind front comma new piece one now)
     ∙ append_assoc front (44 ∷ piece) more
-    ∙ ap (λ ps. front ++ more_geometries region ps) (sym (rest_is shapes i figure h e))
+    ∙ ap (λ ps. front ++ more_geometries region ps) (sym (rest_is shapes i shape h e))
     ∙ left
 
 -- what holds of the first and of the others holds of all

@@ -8,8 +8,9 @@ use Rattle.plane_edge.specs.Rings.{step_between, path_from, steps_of_ring}
 use Rattle.plane_edge.specs.declared.point.Point.{Point}
 use Rattle.plane_edge.proofs.OrderLemmas.{same_point_itself}
 use Rattle.ring_arcs.specs.RingArcs as ring
-use Rattle.topo_reader.specs.Rings.{path_of, first_of, last_of, AreJoined, joined}
-use Rattle.arc_dissolve.specs.Rings.{told}
+use Rattle.topo_reader.specs.Rings.{path_of}
+use Rattle.plane_edge.specs.Paths.{first_of, last_of, AreJoined, points_along}
+use Rattle.arc_dissolve.specs.Rings.{points_round}
 use Rattle.topo_writer.specs.Drawing.{IsClosedRing}
 
 -- ---- one path
@@ -59,7 +60,7 @@ chained b e (path ∷ paths) some j =
     ∙ sym (append_assoc (ring.without_last path) (flat_map ring.without_last paths) (e ∷ []))
 
 joined_is : (b e : Point) (paths : List (List Point)) → 0 < length paths → AllByRecursion (λ path. 1 ≤ length path) paths → AreJoined (Some b) paths (Some e)
-    → joined paths ≡ flat_map ring.without_last paths ++ e ∷ []
+    → points_along paths ≡ flat_map ring.without_last paths ++ e ∷ []
 joined_is b e [] any some j = absurd (omega arith)
 joined_is b e (path ∷ paths) any some j =
     ap (λ (t : List Point). t ++ flat_map (drop 1) paths) (begins path b j.0) ∙ chained b e (path ∷ paths) some j
@@ -99,7 +100,7 @@ first_begins b e [] any long j = absurd (omega arith)
 first_begins b e (path ∷ paths) any long j = first_append (ring.without_last path) (flat_map ring.without_last paths) b (front path long.0 ∙ j.0)
 
 joined_steps : (b : Point) (paths : List (List Point)) → 0 < length paths → AllByRecursion (λ path. 2 ≤ length path) paths → AreJoined (Some b) paths (Some b)
-    → steps_of_ring (joined paths) ≡ steps_of_ring (flat_map ring.without_last paths)
+    → steps_of_ring (points_along paths) ≡ steps_of_ring (flat_map ring.without_last paths)
 joined_steps b paths any long j =
     ap steps_of_ring (joined_is b b paths any (weaker paths long) j) ∙ closing b (flat_map ring.without_last paths) (first_begins b (Some b) paths any long j)
 
@@ -123,15 +124,11 @@ long_paths : (arcs : List (List Point)) → All (λ arc. 2 ≤ length arc) arcs 
 long_paths arcs long [] is = tt
 long_paths arcs long (i ∷ indexes) is = (long_path arcs long i is.0, long_paths arcs long indexes is.1)
 
-pub are_joined : (begin end : Option Point) (paths : List (List Point)) → ring.AreJoined begin paths end → AreJoined begin paths end
-are_joined begin end [] j = j
-are_joined begin end (path ∷ paths) j = (j.0, are_joined (last_of path) end paths j.1)
-
 -- the ring's steps, told either way
 pub ring_steps : (arcs : List (List Point)) → All (λ arc. 2 ≤ length arc) arcs → (indexes : List ℤ) → AllByRecursion (ring.IsIndex arcs) indexes → (closed : IsClosedRing arcs indexes)
-    → steps_of_ring (joined (map (ring.arc_at arcs) indexes)) ≡ steps_of_ring (told arcs indexes)
+    → steps_of_ring (points_along (map (ring.arc_at arcs) indexes)) ≡ steps_of_ring (points_round arcs indexes)
 ring_steps arcs long indexes in_range closed =
-    joined_steps closed.closed.0 (map (ring.arc_at arcs) indexes) (some indexes closed.some) (long_paths arcs long indexes in_range) (are_joined _ _ _ closed.closed.1)
+    joined_steps closed.closed.0 (map (ring.arc_at arcs) indexes) (some indexes closed.some) (long_paths arcs long indexes in_range) closed.closed.1
   where
     some : (indexes : List ℤ) → 0 < length indexes → 0 < length (map (ring.arc_at arcs) indexes)
     some [] h = absurd (omega arith)

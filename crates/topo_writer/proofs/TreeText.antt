@@ -21,9 +21,10 @@ use Rattle.plane_edge.specs.declared.point.Point.{Point}
 use Rattle.ring_arcs.specs.RingArcs.{IsIndex}
 use Rattle.topo_reader.specs.Arcs.{is_relative}
 use Rattle.arc_dissolve.specs.Drawing.{rings_in}
-use Rattle.arc_dissolve.specs.Shapes.{Figure, Drawn}
+use Rattle.arc_dissolve.specs.Shapes.{Shape, Regions}
 use Rattle.topo_writer.specs.MapText.{step_to, steps_from, positions_of, map_text}
-use Rattle.topo_writer.specs.Drawing.{IsClosedRing, IsWritableClass, IsWritableFrame, IsWritable}
+use Rattle.topo_writer.specs.Drawing.{IsClosedRing, IsWritableClass, IsWritable}
+use Rattle.map_values.specs.Frames.{IsNumberFrame}
 use Rattle.topo_writer.proofs.Numerals.{is_number}
 use Rattle.topo_writer.proofs.MapTree.{number, position_tree, arc_tree, ring_tree, polygon_tree, geometry_tree, geometry_trees, topology_of, tree_of, text_is}
 
@@ -100,8 +101,8 @@ plain_polygon arcs few rings closed = listed (IsClosedRing arcs) ring_tree (plai
 abbrev pub IsGoodClass : List ℕ → Type 0
 IsGoodClass class = IsWritableClass class × IsUtf8 class
 
-abbrev pub AreClosed : List (List Point) → Figure → Type 0
-AreClosed arcs figure = All (IsClosedRing arcs) (rings_in figure.polygons)
+abbrev pub AreClosed : List (List Point) → Shape → Type 0
+AreClosed arcs shape = All (IsClosedRing arcs) (rings_in shape.polygons)
 
 -- what holds of each item of the lists one after another holds of each item of each list
 parted : {X : Type 0} (P : X → Type 0) (xs ys : List X) → AllByRecursion P (xs ++ ys) → AllByRecursion P xs × AllByRecursion P ys
@@ -112,14 +113,14 @@ pub each_part : {X : Type 0} (P : X → Type 0) (lists : List (List X)) → AllB
 each_part P [] h = tt
 each_part P (list ∷ lists) h = let parts = parted P list (flat_map (λ list. list) lists) h in (parts.0, each_part P lists parts.1)
 
-pub closed_parts : (arcs : List (List Point)) (figure : Figure) → AreClosed arcs figure → AllByRecursion (AllByRecursion (IsClosedRing arcs)) figure.polygons
-closed_parts arcs figure closed = each_part (IsClosedRing arcs) figure.polygons (recursion_from_All (IsClosedRing arcs) (rings_in figure.polygons) closed)
+pub closed_parts : (arcs : List (List Point)) (shape : Shape) → AreClosed arcs shape → AllByRecursion (AllByRecursion (IsClosedRing arcs)) shape.polygons
+closed_parts arcs shape closed = each_part (IsClosedRing arcs) shape.polygons (recursion_from_All (IsClosedRing arcs) (rings_in shape.polygons) closed)
 
-plain_geometry : (arcs : List (List Point)) → length arcs < 2 ^ 64 → (region : ℕ) → region < 65536 → (figure : Figure) → IsGoodClass figure.class → AreClosed arcs figure → IsPlainTree (geometry_tree region figure)
-plain_geometry arcs few region small figure class closed =
-    let polygons = listed (AllByRecursion (IsClosedRing arcs)) polygon_tree (plain_polygon arcs few) figure.polygons (closed_parts arcs figure closed) in
+plain_geometry : (arcs : List (List Point)) → length arcs < 2 ^ 64 → (region : ℕ) → region < 65536 → (shape : Shape) → IsGoodClass shape.class → AreClosed arcs shape → IsPlainTree (geometry_tree region shape)
+plain_geometry arcs few region small shape class closed =
+    let polygons = listed (AllByRecursion (IsClosedRing arcs)) polygon_tree (plain_polygon arcs few) shape.polygons (closed_parts arcs shape closed) in
     let id : IsJsonNumber (decimal region) = is_number (pos region) (record { sfits = omega arith }) in
-    let class_text : IsPlainText figure.class = record { utf8 = class.1; printed = recursion_from_All (λ b. 32 ≤ b) figure.class class.0.printed } in (
+    let class_text : IsPlainText shape.class = record { utf8 = class.1; printed = recursion_from_All (λ b. 32 ≤ b) shape.class class.0.printed } in (
       letters (codes "type") refl,
       letters (codes "MultiPolygon") refl,
       (
@@ -133,13 +134,13 @@ plain_geometry arcs few region small figure class closed =
       ),
     )
 
-plain_geometries : (arcs : List (List Point)) → length arcs < 2 ^ 64 → (region : ℕ) (figures : List Figure) → region + length figures ≤ 65536
-    → AllByRecursion (λ figure. IsGoodClass figure.class) figures → AllByRecursion (AreClosed arcs) figures → ArePlainItems (items_of (geometry_trees region figures))
+plain_geometries : (arcs : List (List Point)) → length arcs < 2 ^ 64 → (region : ℕ) (shapes : List Shape) → region + length shapes ≤ 65536
+    → AllByRecursion (λ shape. IsGoodClass shape.class) shapes → AllByRecursion (AreClosed arcs) shapes → ArePlainItems (items_of (geometry_trees region shapes))
 plain_geometries arcs few region [] count classes closed = tt
-plain_geometries arcs few region (figure ∷ figures) count classes closed =
-    (plain_geometry arcs few region (omega arith) figure classes.0 closed.0, plain_geometries arcs few (region + 1) figures (omega arith) classes.1 closed.1)
+plain_geometries arcs few region (shape ∷ shapes) count classes closed =
+    (plain_geometry arcs few region (omega arith) shape classes.0 closed.0, plain_geometries arcs few (region + 1) shapes (omega arith) classes.1 closed.1)
 
-plain_topology : (frame : Frame) (geometries arcs : Json) → IsWritableFrame frame → IsPlainTree geometries → IsPlainTree arcs → IsPlainTree (topology_of frame geometries arcs)
+plain_topology : (frame : Frame) (geometries arcs : Json) → IsNumberFrame frame → IsPlainTree geometries → IsPlainTree arcs → IsPlainTree (topology_of frame geometries arcs)
 plain_topology Plain geometries arcs is g a = (
   letters (codes "type") refl,
   letters (codes "Topology") refl,
@@ -154,7 +155,7 @@ plain_topology (Scaled sx sy tx ty) geometries arcs is g a = (
   letters (codes "Topology") refl,
   (
     letters (codes "transform") refl,
-    (letters (codes "scale") refl, (is.scale_x, (is.scale_y, tt)), (letters (codes "translate") refl, (is.move_x, (is.move_y, tt)), tt)),
+    (letters (codes "scale") refl, (is.0, (is.1, tt)), (letters (codes "translate") refl, (is.2, (is.3, tt)), tt)),
     (
       letters (codes "objects") refl,
       (letters (codes "regions") refl, (letters (codes "type") refl, letters (codes "GeometryCollection") refl, (letters (codes "geometries") refl, g, tt)), tt),
@@ -163,10 +164,10 @@ plain_topology (Scaled sx sy tx ty) geometries arcs is g a = (
   ),
 )
 
-both : (figures : List Figure) → All (λ figure. IsWritableClass figure.class) figures → All (λ figure. IsUtf8 figure.class) figures → AllByRecursion (λ figure. IsGoodClass figure.class) figures
-both figures written utf8 = recursion_from_All (λ figure. IsGoodClass figure.class) figures (λ k d below. (written k d below, utf8 k d below))
+both : (shapes : List Shape) → All (λ shape. IsWritableClass shape.class) shapes → All (λ shape. IsUtf8 shape.class) shapes → AllByRecursion (λ shape. IsGoodClass shape.class) shapes
+both shapes written utf8 = recursion_from_All (λ shape. IsGoodClass shape.class) shapes (λ k d below. (written k d below, utf8 k d below))
 
-pub tree_is_spelled : (drawn : Drawn) (frame : Frame) → IsWritable drawn frame → length drawn.arcs < 2 ^ 64 → All (λ figure. IsUtf8 figure.class) drawn.shapes → Spells (map_text drawn frame) (tree_of drawn frame)
-tree_is_spelled drawn frame is few utf8 =
-    let geometries = plain_geometries drawn.arcs few 0 drawn.shapes (let h = is.few_shapes in omega arith) (both drawn.shapes is.classes utf8) (recursion_from_All (AreClosed drawn.arcs) drawn.shapes is.rings) in
-    subst (λ text. Spells text (tree_of drawn frame)) (text_is drawn frame) (spells_line (tree_of drawn frame) (plain_topology frame _ _ is.frame_is geometries (plain_arcs (is_relative frame) drawn.arcs)))
+pub tree_is_spelled : (regions : Regions) (frame : Frame) → IsWritable regions frame → length regions.arcs < 2 ^ 64 → All (λ shape. IsUtf8 shape.class) regions.shapes → Spells (map_text regions frame) (tree_of regions frame)
+tree_is_spelled regions frame is few utf8 =
+    let geometries = plain_geometries regions.arcs few 0 regions.shapes (let h = is.few_shapes in omega arith) (both regions.shapes is.classes utf8) (recursion_from_All (AreClosed regions.arcs) regions.shapes is.rings) in
+    subst (λ text. Spells text (tree_of regions frame)) (text_is regions frame) (spells_line (tree_of regions frame) (plain_topology frame _ _ is.frame_is geometries (plain_arcs (is_relative frame) regions.arcs)))

@@ -1,29 +1,18 @@
 -- What a drawn map must keep to be written, and the areas that its text spells.
 use Rattle.std.specs.Prelude.{◌≡◌, ◌≤◌, ◌<◌, ℕ, List, length, map, sum_by, All, Some, codes, ℤ}
 use Rattle.std.specs.List.{AllZip}
-use Rattle.json_text.specs.Numbers.{IsJsonNumber}
+use Rattle.map_values.specs.Frames.{IsNumberFrame}
+use Rattle.agg_base.specs.declared.limits.TheConstants.{AREAS, STEPS}
 use Rattle.json_text.specs.Tree.{Json}
 use Rattle.json_text.specs.Spelling.{Spells}
-use Rattle.plane_edge.specs.Rings.{Outline, ends_of}
+use Rattle.plane_edge.specs.Rings.{Area, ends_of}
 use Rattle.plane_edge.specs.declared.frame.Frame.{Frame}
-use Rattle.plane_edge.specs.declared.frame.Frame.TheVariants.{Plain, Scaled}
 use Rattle.plane_edge.specs.declared.point.Point.{Point}
 use Rattle.ring_arcs.specs.RingArcs.{IsIndex}
 use Rattle.topo_reader.specs.Topology.{SpellsTopology}
 use Rattle.arc_dissolve.specs.Drawing.{rings_in, steps_of}
 use Rattle.arc_dissolve.specs.Rings.{IsClosedWalk}
-use Rattle.arc_dissolve.specs.Shapes.{Figure, Drawn}
-
--- the four texts of a frame are numbers of JSON
-pub record AreFrameNumbers (sx sy tx ty : List ℕ) : Type 0 where
-  pub scale_x : IsJsonNumber sx
-  pub scale_y : IsJsonNumber sy
-  pub move_x : IsJsonNumber tx
-  pub move_y : IsJsonNumber ty
-
-abbrev pub IsWritableFrame : Frame → Type 0
-IsWritableFrame Plain = Unit {0}
-IsWritableFrame (Scaled sx sy tx ty) = AreFrameNumbers sx sy tx ty
+use Rattle.arc_dissolve.specs.Shapes.{Shape, Regions}
 
 -- a class text of 1 to 100 bytes, none of them below 32
 pub record IsWritableClass (class : List ℕ) : Type 0 where
@@ -38,23 +27,23 @@ pub record IsClosedRing (arcs : List (List Point)) (indexes : List ℤ) : Type 0
   pub closed : IsClosedWalk arcs indexes
 
 -- the map may be written with the frame
-pub record IsWritable (drawn : Drawn) (frame : Frame) : Type 0 where
-  pub frame_is : IsWritableFrame frame
-  pub few_shapes : length drawn.shapes ≤ 65536
-  pub few_steps : sum_by (λ figure. length (steps_of drawn.arcs figure)) drawn.shapes ≤ 2097152
-  pub classes : All (λ figure. IsWritableClass figure.class) drawn.shapes
-  pub long : All (λ arc. 2 ≤ length arc) drawn.arcs
-  pub rings : All (λ figure. All (IsClosedRing drawn.arcs) (rings_in figure.polygons)) drawn.shapes
+pub record IsWritable (regions : Regions) (frame : Frame) : Type 0 where
+  pub frame_is : IsNumberFrame frame
+  pub few_shapes : length regions.shapes ≤ AREAS
+  pub few_steps : sum_by (λ shape. length (steps_of regions.arcs shape)) regions.shapes ≤ STEPS
+  pub classes : All (λ shape. IsWritableClass shape.class) regions.shapes
+  pub long : All (λ arc. 2 ≤ length arc) regions.arcs
+  pub rings : All (λ shape. All (IsClosedRing regions.arcs) (rings_in shape.polygons)) regions.shapes
 
 -- the area has the region's class text, and the steps of its rings in order
-pub record IsAreaOf (arcs : List (List Point)) (figure : Figure) (area : Outline) : Type 0 where
-  pub class_is : area.class ≡ figure.class
-  pub steps_are : map ends_of area.steps ≡ steps_of arcs figure
+pub record IsAreaOf (arcs : List (List Point)) (shape : Shape) (area : Area) : Type 0 where
+  pub class_is : area.class ≡ shape.class
+  pub steps_are : map ends_of area.steps ≡ steps_of arcs shape
 
 -- The bytes are a topology whose object `regions` has the drawn regions in order as its areas, with their properties `class` as class texts, passes over none, and has the frame.
-pub record SpellsDrawn (bytes : List ℕ) (drawn : Drawn) (frame : Frame) : Type 0 where
+pub record SpellsDrawn (bytes : List ℕ) (regions : Regions) (frame : Frame) : Type 0 where
   pub tree : Json
-  pub areas : List Outline
-  pub are : AllZip (IsAreaOf drawn.arcs) drawn.shapes areas
+  pub areas : List Area
+  pub are : AllZip (IsAreaOf regions.arcs) regions.shapes areas
   pub text : Spells bytes tree
   pub topology : SpellsTopology tree (codes "class") (Some (codes "regions")) (record { areas = areas; passed = 0; frame = frame })

@@ -2,9 +2,9 @@
 ghost use Rattle.std.specs.Prelude.{◌≡◌, ◌++◌, ◌∷◌, [], OnOk, flat_map, All};
 ghost use Rattle.std.specs.Fmt.{decimal, signed_decimal};
 ghost use Rattle.std.specs.Str.{IsUtf8};
-ghost use Rattle.json_text.specs.Strings.{escaped};
-ghost use Rattle.arc_dissolve.specs.Shapes.{lists_of, nested_of};
-ghost use Rattle.topo_writer.specs.MapText.{commas, bracketed, ring_text, polygon_text, geometry_text, more_geometries, geometries_text};
+ghost use Rattle.json_text.specs.Strings.{escape};
+ghost use Rattle.agg_base.specs.Lists.{lists_of, nested_of};
+ghost use Rattle.topo_writer.specs.MapText.{commas, list_text, ring_text, polygon_text, geometry_text, more_geometries, geometries_text};
 
 use agg_base::{NoMemory, print_signed};
 use arc_dissolve::Shape;
@@ -97,7 +97,7 @@ fn push_polygons(out: &mut Vec<u8>, polygons: &[Vec<Vec<i64>>]) -> Result<(), No
 
 // Appends a byte, with a backslash before a quote or a backslash.
 fn push_byte(out: &mut Vec<u8>, byte: u8) -> Result<(), NoMemory>
-    ensures { OnOk result (out.new.items ≡ out.old.items ++ escaped (byte ∷ [])) }
+    ensures { OnOk result (out.new.items ≡ out.old.items ++ escape (byte ∷ [])) }
 {
     if byte == b'"' || byte == b'\\' {
         out.push(b'\\')?;
@@ -108,7 +108,7 @@ fn push_byte(out: &mut Vec<u8>, byte: u8) -> Result<(), NoMemory>
 
 // Appends a text with its quotes and backslashes escaped.
 fn push_escaped(out: &mut Vec<u8>, text: &str) -> Result<(), NoMemory>
-    ensures text { OnOk result (out.new.items ≡ out.old.items ++ escaped text.now) }
+    ensures text { OnOk result (out.new.items ≡ out.old.items ++ escape text.now) }
     ensures utf8 { OnOk result (IsUtf8 text.now) }
 {
     for byte in text.as_bytes() {
@@ -142,7 +142,7 @@ fn push_geometry(out: &mut Vec<u8>, region: usize, shape: &Shape) -> Result<(), 
 // Appends the regions behind the first, each behind a comma.
 fn push_more_geometries(out: &mut Vec<u8>, shapes: &[Shape]) -> Result<(), NoMemory>
     ensures text { OnOk result (out.new.items ≡ out.old.items ++ more_geometries 1 shapes.now) }
-    ensures utf8 { OnOk result (All (λ figure. IsUtf8 figure.class) shapes.now) }
+    ensures utf8 { OnOk result (All (λ shape. IsUtf8 shape.class) shapes.now) }
 {
     let mut region = 0;
     for shape in shapes {
@@ -156,7 +156,7 @@ fn push_more_geometries(out: &mut Vec<u8>, shapes: &[Shape]) -> Result<(), NoMem
 /// Appends the regions with commas between them, numbered from 0. Their class texts are UTF-8.
 pub(crate) fn push_geometries(out: &mut Vec<u8>, shapes: &[Shape]) -> Result<(), NoMemory>
     ensures text { OnOk result (out.new.items ≡ out.old.items ++ geometries_text shapes.now) }
-    ensures utf8 { OnOk result (All (λ figure. IsUtf8 figure.class) shapes.now) }
+    ensures utf8 { OnOk result (All (λ shape. IsUtf8 shape.class) shapes.now) }
 {
     let [first, rest @ ..] = shapes else {
         return Ok(());

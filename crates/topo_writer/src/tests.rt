@@ -1,6 +1,6 @@
 // Worked maps, whole texts.
 use crate::text;
-use crate::writer::written;
+use crate::writer::bytes_of;
 use agg_base::{NoMemory, Text};
 use arc_dissolve::{Regions, Shape};
 use plane_edge::{Frame, Point};
@@ -73,7 +73,7 @@ fn one_region_with_a_ring(rt: HostRuntime) -> Result<(), Fail> {
     let mut shapes = Vec::new(alloc);
     shapes.push(shape(alloc, "1", &[&[0]])?)?;
     let regions = Regions { arcs, shapes };
-    let bytes = written(alloc, &regions, &unit_frame(alloc)?)?;
+    let bytes = bytes_of(alloc, &regions, &unit_frame(alloc)?)?;
     let want =
         b"{\"type\":\"Topology\",\"transform\":{\"scale\":[1,1],\"translate\":[0,0]},\"objects\":{\"regions\":{\"type\":\"GeometryCollection\",\"geometries\":[{\"type\":\"MultiPolygon\",\"id\":0,\"properties\":{\"class\":\"1\"},\"arcs\":[[[0]]]}]}},\"arcs\":[[[0,0],[1,0],[1,0],[1,0],[0,1],[-1,0],[-1,0],[-1,0],[0,-1]]]}\n";
     assert_eq!(rt; bytes.as_slice(), want.as_slice());
@@ -91,7 +91,7 @@ fn two_regions_share_an_arc(rt: HostRuntime) -> Result<(), Fail> {
     shapes.push(shape(alloc, "1", &[&[-1, 2]])?)?;
     shapes.push(shape(alloc, "2", &[&[1, -3]])?)?;
     let regions = Regions { arcs, shapes };
-    let bytes = written(alloc, &regions, &unit_frame(alloc)?)?;
+    let bytes = bytes_of(alloc, &regions, &unit_frame(alloc)?)?;
     let want =
         b"{\"type\":\"Topology\",\"transform\":{\"scale\":[1,1],\"translate\":[0,0]},\"objects\":{\"regions\":{\"type\":\"GeometryCollection\",\"geometries\":[{\"type\":\"MultiPolygon\",\"id\":0,\"properties\":{\"class\":\"1\"},\"arcs\":[[[-1,2]]]},{\"type\":\"MultiPolygon\",\"id\":1,\"properties\":{\"class\":\"2\"},\"arcs\":[[[1,-3]]]}]}},\"arcs\":[[[1,0],[-1,0],[0,1],[1,0]],[[1,0],[1,0],[0,1],[-1,0]],[[1,0],[0,1]]]}\n";
     assert_eq!(rt; bytes.as_slice(), want.as_slice());
@@ -107,7 +107,7 @@ fn a_plain_frame_and_an_escaped_class(rt: HostRuntime) -> Result<(), Fail> {
     let mut shapes = Vec::new(alloc);
     shapes.push(shape(alloc, "a\"b\\c/d", &[&[0], &[-2]])?)?;
     let regions = Regions { arcs, shapes };
-    let bytes = written(alloc, &regions, &Frame::Plain)?;
+    let bytes = bytes_of(alloc, &regions, &Frame::Plain)?;
     let want =
         b"{\"type\":\"Topology\",\"objects\":{\"regions\":{\"type\":\"GeometryCollection\",\"geometries\":[{\"type\":\"MultiPolygon\",\"id\":0,\"properties\":{\"class\":\"a\\\"b\\\\c/d\"},\"arcs\":[[[0],[-2]]]}]}},\"arcs\":[[[5,5],[9,5],[5,9],[5,5]],[[6,6],[7,6],[6,7],[6,6]]]}\n";
     assert_eq!(rt; bytes.as_slice(), want.as_slice());

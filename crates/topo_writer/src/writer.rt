@@ -62,9 +62,9 @@ fn push_transform(out: &mut Vec<u8>, frame: &Frame) -> Result<(), NoMemory>
 }
 
 /// The bytes of a map: its transform, its shapes in order, and its arcs.
-pub(crate) fn written(alloc: Global, regions: &Regions, frame: &Frame) -> Result<Vec<u8>, NoMemory>
+pub(crate) fn bytes_of(alloc: Global, regions: &Regions, frame: &Frame) -> Result<Vec<u8>, NoMemory>
     ensures layout { IfOk result (λ bytes. bytes.items ≡ map_text regions.now frame.now) }
-    ensures utf8 { OnOk result (All (λ figure. IsUtf8 figure.class) regions.now.shapes) }
+    ensures utf8 { OnOk result (All (λ shape. IsUtf8 shape.class) regions.now.shapes) }
     ensures few { OnOk result (length regions.now.arcs < 2 ^ 64) }
 {
     let mut out = Vec::new(alloc);
@@ -97,6 +97,6 @@ pub fn text(alloc: Global, regions: &Regions, frame: &Frame) -> Result<Vec<u8>, 
     ensures layout { IfOk result (λ bytes. bytes.items ≡ map_text regions.now frame.now) }
     ensures spelled { IfOk result (λ bytes. SpellsDrawn bytes.items regions.now frame.now) }
 {
-    let bytes = written(alloc, regions, frame)?;
+    let bytes = bytes_of(alloc, regions, frame)?;
     Ok(bytes)
 }

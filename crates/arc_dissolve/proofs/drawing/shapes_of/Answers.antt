@@ -1,8 +1,8 @@
 use Rattle.std.proofs.Common.{[], slice_index, arith, ◌∙◌}
 use Rattle.std.proofs.lemmas.List.{get_or_default}
 use Rattle.arc_dissolve.specs.Parts.{parts}
-use Rattle.arc_dissolve.specs.Shapes.{lists_of}
-use Rattle.arc_dissolve.proofs.PartLemmas.{part_within, own_part, left_part, figure_more}
+use Rattle.agg_base.specs.Lists.{lists_of}
+use Rattle.arc_dissolve.proofs.PartLemmas.{part_within, own_part, left_part, shape_more}
 use Rattle.arc_dissolve.proofs.drawing.shapes_of.Goals as goal
 
 pub split_at-requires : goal.split_at-requires
@@ -20,6 +20,6 @@ loop-region-preserved c =
     let name = c.index-names-classes.is ∙ get_or_default names (slice_index classes region) c.index-names-classes.result [] named in
     record {
       left = left_part counts c.args.rings.now c.loop-region.left.now c.split_at.result.1.now region c.loop-region-test.true c.loop-region.invariant.left c.split_at.ensures.back;
-      figures = figure_more (lists_of c.args.arcs.now) (parts counts (lists_of c.args.rings.now)) classes names region (lists_of c.split_at.result.0.now) c.index-names-classes.result c.in_ok-shape_of.field-0 c.loop-region.shapes.items c.push.new.self.items
-          c.loop-region.invariant.figures own name c.in_ok-shape_of.ensures c.in_ok-push.ensures.items;
+      shapes_are = shape_more (lists_of c.args.arcs.now) (parts counts (lists_of c.args.rings.now)) classes names region (lists_of c.split_at.result.0.now) c.index-names-classes.result c.in_ok-shape_of.field-0 c.loop-region.shapes.items c.push.new.self.items
+          c.loop-region.invariant.shapes_are own name c.in_ok-shape_of.ensures c.in_ok-push.ensures.items;
     }

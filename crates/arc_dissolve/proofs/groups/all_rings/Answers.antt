@@ -2,7 +2,7 @@ use Rattle.std.proofs.Common.{◌∙◌, ap}
 use Rattle.std.proofs.lemmas.List.{map_push}
 use Rattle.plane_edge.specs.Edges.{HaveEvenEnds}
 use Rattle.region_rings.specs.RegionRings.{AreRingsOf}
-use Rattle.arc_dissolve.specs.Shapes.{lists_of, nested_of}
+use Rattle.agg_base.specs.Lists.{lists_of, nested_of}
 use Rattle.arc_dissolve.proofs.ListLemmas.{one_of, zip_more}
 use Rattle.arc_dissolve.proofs.groups.all_rings.Goals as goal
 

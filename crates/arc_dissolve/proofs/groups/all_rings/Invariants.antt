@@ -1,7 +1,7 @@
 use Rattle.std.proofs.Common.{take}
 use Rattle.std.specs.List.{AllZip}
 use Rattle.region_rings.specs.RegionRings.{AreRingsOf}
-use Rattle.arc_dissolve.specs.Shapes.{lists_of, nested_of}
+use Rattle.agg_base.specs.Lists.{lists_of, nested_of}
 use Rattle.arc_dissolve.proofs.groups.all_rings.Given as goal
 
 abbrev pub invariant-loop-border : goal.invariant-loop-border

@@ -1,5 +1,5 @@
 use Rattle.std.proofs.Common.{◌≡◌, ℕ, ◌<◌, [], length, get_or, slice_index}
-use Rattle.arc_dissolve.specs.Shapes.{lists_of}
+use Rattle.agg_base.specs.Lists.{lists_of}
 use Rattle.arc_dissolve.specs.Shells.{IsHead}
 use Rattle.arc_dissolve.proofs.heads.heads_of.Given as goal
 

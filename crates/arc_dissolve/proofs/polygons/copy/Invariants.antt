@@ -1,5 +1,5 @@
 use Rattle.std.proofs.Common.{◌≡◌, take}
-use Rattle.arc_dissolve.specs.Shapes.{lists_of}
+use Rattle.agg_base.specs.Lists.{lists_of}
 use Rattle.arc_dissolve.proofs.polygons.copy.Given as goal
 
 abbrev pub invariant-loop-ring : goal.invariant-loop-ring

@@ -1,7 +1,7 @@
 use Rattle.std.proofs.Common.{◌≡◌, ◌<◌, length, All, sym, subst, ap, ◌∙◌}
 use Rattle.plane_edge.specs.Rings.{steps_of_ring}
 use Rattle.ring_arcs.specs.RingArcs.{IsIndex}
-use Rattle.arc_dissolve.specs.Shapes.{lists_of, nested_of}
+use Rattle.agg_base.specs.Lists.{lists_of, nested_of}
 use Rattle.arc_dissolve.specs.Slots.{AreHeads}
 use Rattle.arc_dissolve.proofs.HoleLemmas.{heads_settled, polygons_are}
 use Rattle.arc_dissolve.proofs.ListLemmas.{lists_length}
@@ -14,6 +14,13 @@ outlines_of-requires c =
     let drawn = drawn_in_order arcs c.args.rings.now c.in_ok-rings.rings.items c.requires c.in_ok-rings.ensures.same in
     subst (λ rs. All (λ v. All (IsIndex arcs) v.items) rs) (sym c.deref.ensures.value) (indexes_in_range arcs c.in_ok-rings.rings.items drawn)
 
+pub shells_of-requires-clause-stepping : goal.shells_of-requires-clause-stepping
+shells_of-requires-clause-stepping c =
+    let arcs = lists_of c.args.arcs.now in
+    let drawn = drawn_in_order arcs c.args.rings.now c.in_ok-rings.rings.items c.requires c.in_ok-rings.ensures.same in
+    let o = rw c.deref.ensures.value at c.in_ok-outlines.ensures in
+    subst (λ os. All (λ v. 0 < length (steps_of_ring v.items)) os) (sym c.deref-3.ensures.value) (steps_there arcs c.in_ok-rings.rings.items c.in_ok-outlines.outlines.items drawn o)
+
 pub heads_of-requires : goal.heads_of-requires
 heads_of-requires c =
     let arcs = lists_of c.args.arcs.now in
@@ -21,8 +28,8 @@ heads_of-requires c =
     let o = rw c.deref.ensures.value at c.in_ok-outlines.ensures in
     subst (λ os. All (λ v. 0 < length (steps_of_ring v.items)) os) (sym c.deref-5.ensures.value) (steps_there arcs c.in_ok-rings.rings.items c.in_ok-outlines.outlines.items drawn o)
 
-pub grouped-requires : goal.grouped-requires
-grouped-requires c =
+pub group-requires : goal.group-requires
+group-requires c =
     let arcs = lists_of c.args.arcs.now in
     let rings = c.in_ok-rings.rings.items in
     let o = rw c.deref.ensures.value at c.in_ok-outlines.ensures in

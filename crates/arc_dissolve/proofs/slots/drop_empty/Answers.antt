@@ -1,6 +1,6 @@
 use Rattle.std.proofs.Common.{rules, ap, ◌∙◌}
 use Rattle.std.proofs.lemmas.List.Elements.{filter_from_retain}
-use Rattle.arc_dissolve.specs.Shapes.{lists_of, nested_of}
+use Rattle.agg_base.specs.Lists.{lists_of, nested_of}
 use Rattle.arc_dissolve.specs.Slots.{is_filled}
 use Rattle.arc_dissolve.proofs.ListLemmas.{map-filter}
 use Rattle.arc_dissolve.proofs.slots.drop_empty.Goals as goal

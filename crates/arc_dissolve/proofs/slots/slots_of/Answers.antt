@@ -1,6 +1,6 @@
 use Rattle.std.proofs.Common.{arith, cond, eqb, slice_index, [], ◌∷◌, ap, ◌∙◌}
 use Rattle.std.proofs.lemmas.List.{map_push}
-use Rattle.arc_dissolve.specs.Shapes.{lists_of, nested_of}
+use Rattle.agg_base.specs.Lists.{lists_of, nested_of}
 use Rattle.arc_dissolve.proofs.ListLemmas.{lists_length}
 use Rattle.arc_dissolve.proofs.ShellLemmas.{list_at}
 use Rattle.arc_dissolve.proofs.SlotLemmas.{fronts_more}

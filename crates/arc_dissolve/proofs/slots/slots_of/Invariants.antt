@@ -1,4 +1,4 @@
-use Rattle.arc_dissolve.specs.Shapes.{lists_of, nested_of}
+use Rattle.agg_base.specs.Lists.{lists_of, nested_of}
 use Rattle.arc_dissolve.specs.Slots.{AreFronts}
 use Rattle.arc_dissolve.proofs.slots.slots_of.Given as goal
 

@@ -1,4 +1,4 @@
-use Rattle.ring_arcs.specs.RingArcs.{lists_of}
+use Rattle.agg_base.specs.Lists.{lists_of}
 use Rattle.ring_arcs.specs.Rings.{steps_of_rings}
 use Rattle.ring_arcs.proofs.GatherLemmas.{all_covered, stored_from_gathered}
 use Rattle.ring_arcs.proofs.WayLemmas.{symmetric_ways}

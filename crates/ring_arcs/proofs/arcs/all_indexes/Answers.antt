@@ -1,6 +1,6 @@
 use Rattle.ring_arcs.specs.Breaks.{IsBroken}
 use Rattle.ring_arcs.specs.Chains.{IsCovered}
-use Rattle.ring_arcs.specs.RingArcs.{lists_of}
+use Rattle.agg_base.specs.Lists.{lists_of}
 use Rattle.ring_arcs.proofs.GatherLemmas.{one_of_rings}
 use Rattle.ring_arcs.proofs.NumberLemmas.{indexed_more}
 use Rattle.ring_arcs.proofs.arcs.all_indexes.Goals as goal

@@ -1,5 +1,6 @@
 use Rattle.std.proofs.Common.{take}
-use Rattle.ring_arcs.specs.RingArcs.{lists_of, AreIndexed}
+use Rattle.ring_arcs.specs.RingArcs.{AreIndexed}
+use Rattle.agg_base.specs.Lists.{lists_of}
 use Rattle.ring_arcs.proofs.arcs.all_indexes.Given as goal
 
 abbrev pub invariant-loop-ring : goal.invariant-loop-ring

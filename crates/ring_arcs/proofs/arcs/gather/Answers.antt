@@ -2,7 +2,7 @@ use Rattle.std.proofs.Common.{subst, List}
 use Rattle.plane_edge.specs.declared.point.Point.{Point}
 use Rattle.ring_arcs.specs.Breaks.{IsBroken}
 use Rattle.ring_arcs.specs.Chains.{IsCovered, AddsArcs}
-use Rattle.ring_arcs.specs.RingArcs.{lists_of}
+use Rattle.agg_base.specs.Lists.{lists_of}
 use Rattle.ring_arcs.proofs.GatherLemmas.{gathered_step, one_of_rings}
 use Rattle.ring_arcs.proofs.arcs.gather.Goals as goal
 

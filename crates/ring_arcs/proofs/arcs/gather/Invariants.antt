@@ -1,6 +1,6 @@
 use Rattle.std.proofs.Common.{take}
 use Rattle.ring_arcs.specs.Chains.{AreGathered}
-use Rattle.ring_arcs.specs.RingArcs.{lists_of}
+use Rattle.agg_base.specs.Lists.{lists_of}
 use Rattle.ring_arcs.proofs.arcs.gather.Given as goal
 
 abbrev pub invariant-loop-ring : goal.invariant-loop-ring

@@ -1,6 +1,7 @@
 use Rattle.std.proofs.Common.{◌≡◌, sym, ◌∙◌, subst, ℤ, FitsSigned, w64}
 use Rattle.std.proofs.lemmas.Int.{to_z-of_z}
-use Rattle.ring_arcs.specs.RingArcs.{lists_of, arc_at}
+use Rattle.ring_arcs.specs.RingArcs.{arc_at}
+use Rattle.agg_base.specs.Lists.{lists_of}
 use Rattle.ring_arcs.proofs.NumberLemmas.{told_forward, told_backward}
 use Rattle.ring_arcs.proofs.numbers.index_of.Goals as goal
 

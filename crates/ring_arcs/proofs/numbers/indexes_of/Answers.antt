@@ -1,7 +1,8 @@
 use Rattle.std.proofs.Common.{◌≡◌, ◌<◌, ℤ, sym, subst, List, length, map, All, Vec, Global}
 use Rattle.plane_edge.specs.declared.point.Point.{Point}
 use Rattle.ring_arcs.specs.Numbers.{IsLeastAt, IsStoredIn}
-use Rattle.ring_arcs.specs.RingArcs.{lists_of, arc_at, AreIndexesOf}
+use Rattle.ring_arcs.specs.RingArcs.{arc_at, AreIndexesOf}
+use Rattle.agg_base.specs.Lists.{lists_of}
 use Rattle.ring_arcs.proofs.Counts.{all_from_map}
 use Rattle.ring_arcs.proofs.GatherLemmas.{chains_long}
 use Rattle.ring_arcs.proofs.NumberLemmas.{stored_chains, some_chain, some_index, indexes_on}

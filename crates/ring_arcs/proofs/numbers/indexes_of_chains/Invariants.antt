@@ -1,5 +1,6 @@
 use Rattle.std.proofs.Common.{◌≡◌, take, map, All}
-use Rattle.ring_arcs.specs.RingArcs.{lists_of, arc_at, IsIndex}
+use Rattle.ring_arcs.specs.RingArcs.{arc_at, IsIndex}
+use Rattle.agg_base.specs.Lists.{lists_of}
 use Rattle.ring_arcs.proofs.numbers.indexes_of_chains.Given as goal
 
 abbrev pub invariant-loop-chain : goal.invariant-loop-chain

@@ -1,6 +1,6 @@
 use Rattle.std.proofs.Common.{sym, ◌∙◌, subst, List, Contains}
 use Rattle.plane_edge.specs.declared.point.Point.{Point}
-use Rattle.ring_arcs.specs.RingArcs.{lists_of}
+use Rattle.agg_base.specs.Lists.{lists_of}
 use Rattle.ring_arcs.proofs.SortLemmas.{found_at, not_lost}
 use Rattle.ring_arcs.proofs.numbers.number_in.Goals as goal
 

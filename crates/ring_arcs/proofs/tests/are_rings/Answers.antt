@@ -2,7 +2,7 @@ use Rattle.std.proofs.Common.{subst, All, Vec, Global}
 use Rattle.std.proofs.lemmas.List.{take_all}
 use Rattle.std.proofs.lemmas.List.Elements.{All-more}
 use Rattle.plane_edge.specs.declared.point.Point.{Point}
-use Rattle.ring_arcs.specs.Rings.{IsRing}
+use Rattle.plane_edge.specs.Rings.{IsRing}
 use Rattle.ring_arcs.proofs.tests.are_rings.Goals as goal
 
 pub loop-ring-preserved : goal.loop-ring-preserved

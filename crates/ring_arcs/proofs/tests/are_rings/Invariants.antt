@@ -1,5 +1,5 @@
 use Rattle.std.proofs.Common.{take, All}
-use Rattle.ring_arcs.specs.Rings.{IsRing}
+use Rattle.plane_edge.specs.Rings.{IsRing}
 use Rattle.ring_arcs.proofs.tests.are_rings.Given as goal
 
 abbrev pub invariant-loop-ring : goal.invariant-loop-ring

@@ -9,5 +9,5 @@ three_or_more n m h = grind (arith, nat_tests)
 pub returns : goal.returns
 returns c = λ h. record {
   long = three_or_more (length c.args.ring.now) 3 h;
-  different = λ i j d l m e. true_not_false _ (is_same _ _ e) (c.loop-at.invariant i j d (omega arith) l m);
+  simple = λ i j d l m e. true_not_false _ (is_same _ _ e) (c.loop-at.invariant i j d (omega arith) l m);
 }

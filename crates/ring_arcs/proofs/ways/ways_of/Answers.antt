@@ -2,7 +2,7 @@ use Rattle.std.proofs.Common.{sym, ◌∙◌, ap, subst, map, List}
 use Rattle.plane_edge.specs.declared.edge.Edge.{Edge}
 use Rattle.plane_edge.specs.declared.point.Point.{Point}
 use Rattle.plane_edge.specs.Rings.{ends_of}
-use Rattle.ring_arcs.specs.RingArcs.{lists_of}
+use Rattle.agg_base.specs.Lists.{lists_of}
 use Rattle.ring_arcs.specs.Rings.{steps_of_rings}
 use Rattle.ring_arcs.specs.Ways.{AreWaysOf}
 use Rattle.ring_arcs.proofs.WayLemmas.{ways_of_rings, same_ways}

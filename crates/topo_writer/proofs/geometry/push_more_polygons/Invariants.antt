@@ -1,5 +1,5 @@
 use Rattle.std.proofs.Common.{◌≡◌, ◌++◌, ◌∷◌, flat_map, take}
-use Rattle.arc_dissolve.specs.Shapes.{nested_of}
+use Rattle.agg_base.specs.Lists.{nested_of}
 use Rattle.topo_writer.specs.MapText.{polygon_text}
 use Rattle.topo_writer.proofs.geometry.push_more_polygons.Given as goal
 

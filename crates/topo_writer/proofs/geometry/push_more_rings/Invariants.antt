@@ -1,5 +1,5 @@
 use Rattle.std.proofs.Common.{◌≡◌, ◌++◌, ◌∷◌, flat_map, take}
-use Rattle.arc_dissolve.specs.Shapes.{lists_of}
+use Rattle.agg_base.specs.Lists.{lists_of}
 use Rattle.topo_writer.specs.MapText.{ring_text}
 use Rattle.topo_writer.proofs.geometry.push_more_rings.Given as goal
 

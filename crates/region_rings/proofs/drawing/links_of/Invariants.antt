@@ -1,0 +1,8 @@
+use Rattle.std.proofs.Common.{◌≡◌, ◌+◌, ◌<◌, ℕ, length, get_or}
+use Rattle.region_rings.proofs.drawing.links_of.Given as goal
+
+abbrev pub invariant-loop-place : goal.invariant-loop-place
+invariant-loop-place l = record {
+  count : length l.links.items ≡ l.place;
+  each : (k : ℕ) → k < l.place → get_or l.links.items k 0 ≡ k + 1;
+}
