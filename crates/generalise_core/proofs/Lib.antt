@@ -1,6 +1,8 @@
-pub mod SaidLemmas
+pub mod DraftLemmas
 pub mod Endings
+pub mod StateLemmas
 pub mod Decisions
 pub mod Exclusions
-pub mod Heard
+pub mod RunLemmas
+pub mod Headlines
 pub mod Plannings

@@ -3,31 +3,31 @@ use Rattle.std.proofs.Common.{◌≡◌, ◌≢◌, ◌↔◌, ◌<◌, ◌+◌,
 use Rattle.std.proofs.lemmas.Bool.{cases_lt}
 use Rattle.std.proofs.lemmas.List.{get_or_append_left, get_or-append_right}
 use Rattle.std.proofs.lemmas.List.Elements.{Contains-get_or, Contains-append_left, Contains-append_right, Contains-append_cases}
-use Rattle.agg_model.specs.Plan.{Plan, Groups, IsPlan, IsFeasible, IsRising, areas, cost, region, class_in}
+use Rattle.agg_model.specs.Problem.{Problem, Grouping, IsProblem, IsFeasible, IsRising, areas, cost, region, class_in}
 use Rattle.agg_model.specs.Parts.{AreParts, InOnePart}
 use Rattle.agg_model.proofs.CostLemmas.{cost_law}
 use Rattle.greedy_start.specs.Starts.{IsNumberedByLeast, IsOneRegionEach, IsFirstHopeless}
 use Rattle.greedy_start.proofs.PartLemmas.{one_number, one_way, parts_law}
 use Rattle.std.proofs.lemmas.List.Elements.{All-from_get_or}
 use Rattle.area_graph.specs.Problems.{IsProblemOf}
-use Rattle.class_table.specs.Classes.{Classes, IsClasses, name_of}
+use Rattle.class_table.specs.Table.{Table, IsTable, name_of}
 use Rattle.class_table.specs.Names.{IsName}
-use Rattle.coverage_check.specs.Checked.{CheckedMap}
+use Rattle.coverage_check.specs.Checked.{Checked}
 use Rattle.plane_edge.specs.declared.frame.Frame.{Frame}
 use Rattle.plane_edge.specs.declared.frame.Frame.TheVariants.{Plain, Scaled}
-use Rattle.grid_reader.specs.Frames.{IsNumberFrame}
-use Rattle.topo_writer.specs.Drawing.{IsWritableFrame, IsWritableClass}
+use Rattle.map_values.specs.Frames.{IsNumberFrame}
+use Rattle.topo_writer.specs.Drawing.{IsWritableClass}
 use Rattle.map_drawing.specs.Drawn.{IsDrawable}
-use Rattle.generalise_core.specs.Certificates.{Stated, certificate, report, with_map}
+use Rattle.generalise_core.specs.Certificates.{Outcome, certificate, report, with_map}
 use Rattle.generalise_core.specs.Answers.{States, IsBound, IsKindOf, IsPartOf, IsVoidOver, leaf_of}
 use Rattle.generalise_core.specs.Places.{ArePlaces}
 use Rattle.generalise_core.specs.declared.outcome.Kind.TheVariants.{Hopeless}
 
 -- no grouping costs less than 0
-no_less : (p : Plan) → IsPlan p → IsBound p (pos 0)
-no_less p plan = λ g feasible. cost_law p g plan feasible.numbered
+no_less : (p : Problem) → IsProblem p → IsBound p (pos 0)
+no_less p plan = λ g feasible. (cost_law p g plan feasible.numbered).0
 
-pub states_grouping : (p : Plan) (s : Stated) → IsPlan p → IsFeasible p s.grouping → IsNumberedByLeast p s.grouping → IsOneRegionEach p s.grouping
+pub states_grouping : (p : Problem) (s : Outcome) → IsProblem p → IsFeasible p s.grouping → IsNumberedByLeast p s.grouping → IsOneRegionEach p s.grouping
     → s.areas ≡ areas p → s.cost ≡ Some (cost p s.grouping) → s.bound ≡ Some (pos 0) → IsKindOf (pos 0) (cost p s.grouping) s.kind
     → s.leaf ≡ leaf_of p → States p s
 states_grouping p s plan feasible numbered one_each count price bound kind leaf = (
@@ -46,7 +46,7 @@ states_grouping p s plan feasible numbered one_each count price bound kind leaf 
   }),
 )
 
-pub states_none : (p : Plan) (s : Stated) (area : ℕ) → IsFirstHopeless p area → ((g : Groups) → ¬ IsFeasible p g) → s.areas ≡ areas p
+pub states_none : (p : Problem) (s : Outcome) (area : ℕ) → IsFirstHopeless p area → ((g : Grouping) → ¬ IsFeasible p g) → s.areas ≡ areas p
     → s.kind ≡ Hopeless → s.grouping ≡ record { region_of = []; class_of = [] } → s.cost ≡ None → s.bound ≡ None → IsVoidOver p area s.leaf
     → States p s
 states_none p s area first never count kind grouping price bound leaf = (
@@ -64,17 +64,17 @@ states_none p s area first never count kind grouping price bound leaf = (
 )
 
 -- a grouping's cost is 0 or more
-pub cost_is_least : (p : Plan) (g : Groups) (c : ℤ) → IsPlan p → IsFeasible p g → c ≡ cost p g → pos 0 ≤ℤ c
-cost_is_least p g c plan feasible same = subst (λ x. pos 0 ≤ℤ x) (sym same) (cost_law p g plan feasible.numbered)
+pub cost_is_least : (p : Problem) (g : Grouping) (c : ℤ) → IsProblem p → IsFeasible p g → c ≡ cost p g → pos 0 ≤ℤ c
+cost_is_least p g c plan feasible same = subst (λ x. pos 0 ≤ℤ x) (sym same) (cost_law p g plan feasible.numbered).0
 
-abbrev pub groups_of : List ℕ → List ℕ → Groups
+abbrev pub groups_of : List ℕ → List ℕ → Grouping
 groups_of regions classes = record { region_of = regions; class_of = classes }
 
 pub no_groups : (regions classes : List ℕ) → regions ≡ [] → classes ≡ [] → groups_of regions classes ≡ groups_of [] []
 no_groups regions classes e f = ap (λ x. groups_of x classes) e ∙ ap (groups_of []) f
 
 -- the areas whose part has that number are the part of its least area
-pub part_places : (p : Plan) (area : ℕ) (parts places : List ℕ) → IsFirstHopeless p area → length parts ≡ areas p
+pub part_places : (p : Problem) (area : ℕ) (parts places : List ℕ) → IsFirstHopeless p area → length parts ≡ areas p
     → AreParts p (λ v. slice_index parts v) → ArePlaces parts area places → IsPartOf p area places
 part_places p area parts places first long are_parts are =
     let top : slice_index parts area ≡ area = parts_law p (λ v. slice_index parts v) first.part are_parts first.are_parts area first.within ∙ first.least in
@@ -186,11 +186,11 @@ all_places numbers number n places all are =
 
 -- ---- the map is no part of the certificate, nor of the report
 
-pub same_certificate : (s : Stated) (text : Option (List ℕ)) → certificate (with_map s text) ≡ certificate s
+pub same_certificate : (s : Outcome) (text : Option (List ℕ)) → certificate (with_map s text) ≡ certificate s
 unfolding certificate
 same_certificate s text = refl
 
-pub same_report : (s : Stated) (text : Option (List ℕ)) → report (with_map s text) ≡ report s
+pub same_report : (s : Outcome) (text : Option (List ℕ)) → report (with_map s text) ≡ report s
 unfolding report
 same_report s text = refl
 
@@ -199,13 +199,8 @@ same_report s text = refl
 writable_name : (name : List ℕ) → IsName name → IsWritableClass name
 writable_name name is = record { some = is.some; few = is.few; printed = is.printed }
 
--- a grid's frame may be written
-pub writable_frame : (frame : Frame) → IsNumberFrame frame → IsWritableFrame frame
-writable_frame Plain is = is
-writable_frame (Scaled sx sy tx ty) is = record { scale_x = is.0; scale_y = is.1; move_x = is.2; move_y = is.3 }
-
 -- a feasible grouping of a checked map's problem may be drawn
-pub drawable : (c : CheckedMap) (t : Classes) (p : Plan) (g : Groups) → IsProblemOf c.areas t p → IsClasses t → IsWritableFrame c.frame → IsFeasible p g → IsDrawable c g t.names
+pub drawable : (c : Checked) (t : Table) (p : Problem) (g : Grouping) → IsProblemOf c.areas t p → IsTable t → IsNumberFrame c.frame → IsFeasible p g → IsDrawable c g t.names
 drawable c t p g is_problem table frame feasible =
     let numbered = feasible.numbered in
     let long : length g.region_of ≡ length c.areas = numbered.one_each ∙ is_problem.own.one_each in

@@ -2,8 +2,8 @@
 use Rattle.std.specs.Prelude.{ℕ, List, [], ◌∷◌, ◌++◌, map, length, Option, None, Some, ℤ, codes}
 use Rattle.std.specs.List.{range_with_len, flat_map}
 use Rattle.std.specs.Fmt.{decimal, signed_decimal}
-use Rattle.agg_base.specs.Texts.{ended}
-use Rattle.agg_model.specs.Plan.{Groups}
+use Rattle.agg_base.specs.Texts.{text_of_lines}
+use Rattle.agg_model.specs.Problem.{Grouping}
 use Rattle.generalise_core.specs.declared.outcome.Kind.{Kind}
 use Rattle.generalise_core.specs.declared.outcome.Kind.TheVariants.{Done, Within, Hopeless}
 use Rattle.generalise_core.specs.declared.outcome.Leaf.{Leaf}
@@ -11,18 +11,18 @@ use Rattle.generalise_core.specs.declared.outcome.Leaf.TheVariants.{Fixed, Plain
 
 -- What is stated of an answer, in the certificate, the report and the written map: how the run ends, how many areas there are and how many were passed over, the grouping, its cost, a bound of every feasible grouping's
 -- cost, and the one leaf that proves the bound. The map is the text that is written. Where no grouping is feasible there is no region, no cost, no bound and no map.
-pub record Stated : Type 0 where
+pub record Outcome : Type 0 where
   pub kind : Kind
   pub areas : ℕ
   pub passed : ℕ
-  pub grouping : Groups
+  pub grouping : Grouping
   pub cost : Option ℤ
   pub bound : Option ℤ
   pub leaf : Leaf
   pub map : Option (List ℕ)
 
 -- the same with this map
-abbrev pub with_map : Stated → Option (List ℕ) → Stated
+abbrev pub with_map : Outcome → Option (List ℕ) → Outcome
 with_map s text = record s { map = text }
 
 abbrev pub kind_word : Kind → List ℕ
@@ -48,7 +48,7 @@ leaf_lines Fixed = codes "f" ∷ []
 leaf_lines Plain = codes "c 1 0" ∷ []
 leaf_lines (Void classes area part) = (codes "v " ++ decimal classes) ∷ map (escape_line area part.items) (range_with_len 0 classes)
 
-abbrev pub head_lines : Stated → List (List ℕ)
+abbrev pub head_lines : Outcome → List (List ℕ)
 head_lines s =
     codes "aggregation 1"
     ∷ (codes "status " ++ kind_word s.kind)
@@ -65,16 +65,16 @@ abbrev pub area_line : ℕ → List ℕ
 area_line region = codes "a " ++ decimal region
 
 -- the class of each region, and the region of each area
-abbrev pub group_lines : Groups → List (List ℕ)
+abbrev pub group_lines : Grouping → List (List ℕ)
 group_lines g = map region_line g.class_of ++ map area_line g.region_of
 
-unfoldable pub certificate : Stated → List ℕ
-certificate s = ended (head_lines s ++ group_lines s.grouping ++ leaf_lines s.leaf ++ codes "end" ∷ [])
+unfoldable pub certificate : Outcome → List ℕ
+certificate s = text_of_lines (head_lines s ++ group_lines s.grouping ++ leaf_lines s.leaf ++ codes "end" ∷ [])
 
 -- what is said: the certificate has one leaf, so there is no split
-unfoldable pub report : Stated → List ℕ
+unfoldable pub report : Outcome → List ℕ
 report s =
-    ended (
+    text_of_lines (
     kind_word s.kind
     ∷ (codes "areas " ++ decimal s.areas)
     ∷ (codes "passed " ++ decimal s.passed)

@@ -1,5 +1,5 @@
--- The exit code of each status, and the status of each kind of answer.
-use Rattle.std.specs.Prelude.{ℕ}
+-- The exit code of each status, the status of each kind of answer, and how else a run may end.
+use Rattle.std.specs.Prelude.{◌≡◌, ◌⊎◌, ℕ}
 use Rattle.generalise_core.specs.declared.status.Status.{Status}
 use Rattle.generalise_core.specs.declared.status.Status.TheVariants.{Done, Within, Hopeless, Usage, Refused, Memory, ReadFault, WriteFault}
 use Rattle.generalise_core.specs.declared.outcome.Kind.{Kind}
@@ -20,3 +20,15 @@ abbrev pub status_of : Kind → Status
 status_of kind.Done = Done
 status_of kind.Within = Within
 status_of kind.Hopeless = Hopeless
+
+-- a grouping was found
+abbrev pub HasGrouping : Status → Type 0
+HasGrouping status = (status ≡ Done) ⊎ (status ≡ Within)
+
+-- a run that is to end so may run out of memory, or fail to say its line
+abbrev pub MayEndAs : Status → Status → Type 0
+MayEndAs wanted status = (status ≡ wanted) ⊎ (status ≡ WriteFault) ⊎ (status ≡ Memory)
+
+-- the same, where a fetch may fail before
+abbrev pub MayFailAs : Status → Status → Type 0
+MayFailAs wanted status = (status ≡ ReadFault) ⊎ MayEndAs wanted status

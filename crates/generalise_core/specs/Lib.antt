@@ -1,12 +1,14 @@
 pub mod Places
 pub mod Texts
 pub mod Words
-pub mod Asked
+pub mod Orders
 pub mod Certificates
 pub mod Answers
 pub mod Stops
 pub mod Codes
 pub mod Puts
+pub mod States
+pub mod FileTexts
 pub mod Runs
 pub mod Plans
 pub mod PlanDues

@@ -1,53 +1,58 @@
 -- What a run makes of its files before it stores or says anything.
 use Rattle.std.specs.Prelude.{◌≡◌, ℕ, List, Result, Ok, Err, Option, ⊤}
-use Rattle.generalise_core.specs.Texts.{text_of}
+use Rattle.agg_base.specs.declared.limits.TheConstants.{MAP_BYTES, TABLE_BYTES}
 use Rattle.shelf_io.specs.Files.{Files}
-use Rattle.generalise_core.specs.Words.{Request}
-use Rattle.generalise_core.specs.Certificates.{Stated, certificate, report}
-use Rattle.generalise_core.specs.Answers.{IsAnswer}
+use Rattle.shelf_io.specs.State.{ShelfState}
 use Rattle.generalise_steps.specs.Refusals.{Refuses}
-use Rattle.generalise_core.specs.Runs.{Answered, IsText, IsTooLong, MissesMap, MissesTable, map_limit, table_limit}
-use Rattle.generalise_core.specs.declared.plan.Halt.{Halt}
-use Rattle.generalise_core.specs.declared.plan.Halt.TheVariants as halt
+use Rattle.generalise_core.specs.Texts.{text_of}
+use Rattle.generalise_core.specs.Words.{Request}
+use Rattle.generalise_core.specs.Certificates.{Outcome, certificate, report}
+use Rattle.generalise_core.specs.Answers.{AnswersTexts}
+use Rattle.generalise_core.specs.FileTexts.{AnswersFiles, IsText, IsTooLong}
+use Rattle.generalise_core.specs.Runs.{MissesMap, MissesTable}
+use Rattle.generalise_core.specs.States.{OnlyFetches}
+use Rattle.generalise_core.specs.declared.plan.NoPlan.{NoPlan}
+use Rattle.generalise_core.specs.declared.plan.NoPlan.TheVariants.{Stopped, Memory}
 use Rattle.generalise_core.specs.declared.plan.Plan.{Plan}
 use Rattle.generalise_core.specs.declared.stop.Stop.{Stop}
 use Rattle.generalise_core.specs.declared.stop.Stop.TheVariants as stop
 
 -- the plan's texts state this
-pub record Writes (plan : Plan) (s : Stated) : Type 0 where
+pub record Writes (plan : Plan) (s : Outcome) : Type 0 where
   pub kind : plan.kind ≡ s.kind
   pub certificate_is : plan.certificate.items ≡ certificate s
   pub report_is : plan.report.items ≡ report s
   pub map_is : text_of plan.map ≡ s.map
 
--- a plan states an answer, and a refusal is that of the texts
-abbrev pub IsPlanned : List ℕ → List ℕ → Result Plan Halt → Type 0
-IsPlanned map table (Ok plan) = (s : Stated) × IsAnswer map table s × Writes plan s
-IsPlanned map table (Err (halt.Stopped (stop.Refused line))) = Refuses map table line
-IsPlanned map table (Err (halt.Stopped stop.Usage)) = ⊥
-IsPlanned map table (Err (halt.Stopped stop.MapMissed)) = ⊥
-IsPlanned map table (Err (halt.Stopped stop.TableMissed)) = ⊥
-IsPlanned map table (Err (halt.Stopped stop.MapTooLong)) = ⊥
-IsPlanned map table (Err (halt.Stopped stop.TableTooLong)) = ⊥
-IsPlanned map table (Err halt.Memory) = ⊤
+-- a plan states an answer to the texts, and a refusal is that of the texts
+abbrev pub PlansTexts : List ℕ → List ℕ → Result Plan NoPlan → Type 0
+PlansTexts map table (Ok plan) = (s : Outcome) × AnswersTexts map table s × Writes plan s
+PlansTexts map table (Err (Stopped (stop.Refused line))) = Refuses map table line
+PlansTexts map table (Err (Stopped stop.Usage)) = ⊥
+PlansTexts map table (Err (Stopped stop.MapMissed)) = ⊥
+PlansTexts map table (Err (Stopped stop.TableMissed)) = ⊥
+PlansTexts map table (Err (Stopped stop.MapTooLong)) = ⊥
+PlansTexts map table (Err (Stopped stop.TableTooLong)) = ⊥
+PlansTexts map table (Err Memory) = ⊤
 
 -- the plan states an answer to the files
-pub record Keeps (files : Option Files) (r : Request) (plan : Plan) : Type 0 where
-  pub stated : Stated
-  pub answered : Answered files r stated
+pub record PlansFiles (files : Option Files) (r : Request) (plan : Plan) : Type 0 where
+  pub stated : Outcome
+  pub answers : AnswersFiles files r stated
   pub writes : Writes plan stated
 
--- why nothing is stored, once the words spell a request
-abbrev pub IsStopped : Option Files → Request → ℕ → ℕ → List ℕ → Stop → Type 0
-IsStopped files r had has missed stop.Usage = ⊥
-IsStopped files r had has missed stop.MapMissed = MissesMap r had has missed
-IsStopped files r had has missed stop.TableMissed = MissesTable files r had has missed
-IsStopped files r had has missed stop.MapTooLong = IsTooLong files r.map map_limit
-IsStopped files r had has missed stop.TableTooLong = (map : List ℕ) × IsText files r.map map_limit map × IsTooLong files r.table table_limit
-IsStopped files r had has missed (stop.Refused line) =
-    (map table : List ℕ) × IsText files r.map map_limit map × IsText files r.table table_limit table × Refuses map table line
+-- Why nothing is stored, once the words spell a request. Unless a file was missed, the shelf is as it was.
+abbrev pub StopsFiles : ShelfState → ShelfState → Request → Stop → Type 0
+StopsFiles old new r stop.Usage = ⊥
+StopsFiles old new r stop.MapMissed = MissesMap old new r
+StopsFiles old new r stop.TableMissed = MissesTable old new r
+StopsFiles old new r stop.MapTooLong = IsTooLong old.files r.map MAP_BYTES × (new ≡ old)
+StopsFiles old new r stop.TableTooLong = (map : List ℕ) × IsText old.files r.map MAP_BYTES map × IsTooLong old.files r.table TABLE_BYTES × (new ≡ old)
+StopsFiles old new r (stop.Refused line) =
+    (map table : List ℕ) × IsText old.files r.map MAP_BYTES map × IsText old.files r.table TABLE_BYTES table × Refuses map table line × (new ≡ old)
 
-abbrev pub IsDecided : Option Files → Request → ℕ → ℕ → List ℕ → Result Plan Halt → Type 0
-IsDecided files r had has missed (Ok plan) = Keeps files r plan
-IsDecided files r had has missed (Err (halt.Stopped why)) = IsStopped files r had has missed why
-IsDecided files r had has missed (Err halt.Memory) = ⊤
+-- what is decided of the files, and that the shelf is as it was unless a file was missed
+abbrev pub Decides : ShelfState → ShelfState → Request → Result Plan NoPlan → Type 0
+Decides old new r (Ok plan) = PlansFiles old.files r plan × (new ≡ old)
+Decides old new r (Err (Stopped why)) = StopsFiles old new r why × OnlyFetches old new
+Decides old new r (Err Memory) = new ≡ old

@@ -1,64 +1,19 @@
 -- How a run ends, by what the words and the files say.
-use Rattle.std.specs.Prelude.{◌≡◌, ◌⊎◌, ◌<◌, ◌≤◌, ℕ, List, [], ◌∷◌, length, Option, None, Some, IfSome, codes}
-use Rattle.shelf_io.specs.Files.{Files, text_at, spoken, IsPartlySpoken}
-use Rattle.shelf_io.specs.Causes.{Rose}
-use Rattle.agg_model.specs.Plan.{Plan}
+use Rattle.std.specs.Prelude.{◌≡◌, ◌⊎◌, ℕ, List, [], ◌∷◌, Option, None, Some, codes}
+use Rattle.agg_base.specs.declared.limits.TheConstants.{MAP_BYTES, TABLE_BYTES}
+use Rattle.shelf_io.specs.Files.{Files, with_said, IsPartlySpoken}
+use Rattle.shelf_io.specs.Causes.{HasRisen}
+use Rattle.shelf_io.specs.State.{ShelfState}
+use Rattle.agg_model.specs.Problem.{Problem}
+use Rattle.class_table.specs.Table.{Table}
+use Rattle.coverage_check.specs.Checked.{Checked}
+use Rattle.generalise_steps.specs.Loads.{Loads}
 use Rattle.generalise_core.specs.Words.{Request, Spells}
-use Rattle.generalise_core.specs.Certificates.{Stated, certificate, report}
-use Rattle.generalise_core.specs.Answers.{IsAccepted, IsAnswer}
-use Rattle.generalise_steps.specs.Refusals.{Refuses}
+use Rattle.generalise_core.specs.Certificates.{Outcome, certificate, report}
+use Rattle.generalise_core.specs.FileTexts.{IsText, AnswersFiles, RefusesFiles}
 use Rattle.generalise_core.specs.Stops.{usage_line}
 use Rattle.generalise_core.specs.Puts.{Due, all_stored, IsPartlyPut}
-use Rattle.generalise_core.specs.Codes.{status_of}
-use Rattle.generalise_core.specs.declared.outcome.Kind.{Kind}
-use Rattle.generalise_core.specs.declared.status.Status.{Status}
-use Rattle.generalise_core.specs.declared.status.Status.TheVariants.{Memory, ReadFault, WriteFault}
-
--- a run that is to end so may want memory, or fail to say its line
-abbrev pub MayEndAs : Status → Status → Type 0
-MayEndAs wanted status = (status ≡ wanted) ⊎ (status ≡ WriteFault) ⊎ (status ≡ Memory)
-
--- the same, where a fetch may fail before
-abbrev pub MayFailAs : Status → Status → Type 0
-MayFailAs wanted status = (status ≡ ReadFault) ⊎ MayEndAs wanted status
-
--- the most bytes of a map and of a table
-abbrev pub map_limit : ℕ
-map_limit = 67108864
-
-abbrev pub table_limit : ℕ
-table_limit = 1048576
-
--- the file is longer than it may be, where files are told
-abbrev pub IsTooLong : Option Files → List ℕ → ℕ → Type 0
-IsTooLong files name limit = IfSome files (λ m. limit < length (text_at m name))
-
--- the bytes are within the limit, and are those of the file, where files are told
-pub record IsText (files : Option Files) (name : List ℕ) (limit : ℕ) (bytes : List ℕ) : Type 0 where
-  pub fits : length bytes ≤ limit
-  pub told : IfSome files (λ m. bytes ≡ text_at m name)
-
--- the line of the first step that refuses: the length of the map, that of the table, and then what they hold
-pub data IsRefused (files : Option Files) (r : Request) : List ℕ → Type 0 where
-  long_map : IsTooLong files r.map map_limit → IsRefused files r (codes "refused: map TooLong\n")
-  long_table : (map : List ℕ) → IsText files r.map map_limit map → IsTooLong files r.table table_limit → IsRefused files r (codes "refused: table TooLong\n")
-  texts : (map table line : List ℕ) → IsText files r.map map_limit map → IsText files r.table table_limit table → Refuses map table line → IsRefused files r line
-
--- the two files are accepted, and this is an answer to them
-pub record Answered (files : Option Files) (r : Request) (s : Stated) : Type 0 where
-  pub map : List ℕ
-  pub table : List ℕ
-  pub map_is : IsText files r.map map_limit map
-  pub table_is : IsText files r.table table_limit table
-  pub answers : IsAnswer map table s
-
--- the two files are accepted, and this is their problem
-pub record Accepts (files : Option Files) (r : Request) (p : Plan) : Type 0 where
-  pub map : List ℕ
-  pub table : List ℕ
-  pub map_is : IsText files r.map map_limit map
-  pub table_is : IsText files r.table table_limit table
-  pub accepted : IsAccepted map table p
+use Rattle.generalise_core.specs.States.{with_line, with_all}
 
 -- the written map is due where there is one
 abbrev pub map_due : List ℕ → Option (List ℕ) → List Due
@@ -66,78 +21,84 @@ map_due out None = []
 map_due out (Some text) = (out, text) ∷ []
 
 -- what is due to be stored, in this order: the certificate, and then the map
-abbrev pub dues : Request → Stated → List Due
+abbrev pub dues : Request → Outcome → List Due
 dues r s = (r.certificate, certificate s) ∷ map_due r.out s.map
 
--- all that is due is stored and the report is said; no other file has changed, and nothing else was said
-pub record IsKept (old new : Option Files) (before after : Option (List ℕ)) (words : List (List ℕ)) (kind : Kind) : Type 0 where
-  pub request : Request
-  pub stated : Stated
-  pub spelled : Spells words request
-  pub answered : Answered old request stated
-  pub kind_is : stated.kind ≡ kind
-  pub stored : new ≡ all_stored old (dues request stated)
-  pub heard : after ≡ spoken before (report stated)
+-- ---- a run that answers
 
--- the words spell a request whose files are refused by a line, and the line was said
-pub record IsRefusal (files : Option Files) (before after : Option (List ℕ)) (words : List (List ℕ)) : Type 0 where
+-- What a run answers, and from what: the request of its words, the bytes of the map and of the table, what these spell, and the outcome
+-- that is stated.
+pub record Answer : Type 0 where
+  pub request : Request
+  pub map : List ℕ
+  pub table : List ℕ
+  pub checked : Checked
+  pub classes : Table
+  pub problem : Problem
+  pub outcome : Outcome
+
+-- the words spell the request, its files hold the map and the table, and these spell the rest
+pub record IsAnswerTo (files : Option Files) (words : List (List ℕ)) (a : Answer) : Type 0 where
+  pub spelled : Spells words a.request
+  pub map_is : IsText files a.request.map MAP_BYTES a.map
+  pub table_is : IsText files a.request.table TABLE_BYTES a.table
+  pub loads : Loads a.map a.table a.checked a.classes a.problem
+
+-- The certificate and the map that state its outcome are stored and the report is said. Nothing else has changed.
+abbrev pub IsPutOut : ShelfState → ShelfState → Answer → Type 0
+IsPutOut old new a = new ≡ with_all old (dues a.request a.outcome) (report a.outcome)
+
+-- an answer to the words and the files is put out, and that holds of it
+abbrev pub PutsOut : ShelfState → ShelfState → List (List ℕ) → (Answer → Type 0) → Type 0
+PutsOut old new words Holds = (a : Answer) × IsAnswerTo old.files words a × IsPutOut old new a × Holds a
+
+-- ---- a run that stores nothing
+
+-- the words spell a request whose files are refused by a line, and only the line was said
+pub record SaysRefusal (old new : ShelfState) (words : List (List ℕ)) : Type 0 where
   pub request : Request
   pub line : List ℕ
   pub spelled : Spells words request
-  pub refused : IsRefused files request line
-  pub heard : after ≡ spoken before line
+  pub refused : RefusesFiles old.files request line
+  pub heard : new ≡ with_line old line
 
--- a fetch of this run failed, so the count rose, and the map was missed
-abbrev pub MissesMap : Request → ℕ → ℕ → List ℕ → Type 0
-MissesMap r had has missed = Rose had has × (missed ≡ r.map)
+-- a fetch of this run failed, so the count has risen, and the map was missed
+abbrev pub MissesMap : ShelfState → ShelfState → Request → Type 0
+MissesMap old new r = HasRisen old.fetch_faults new.fetch_faults × (new.missed ≡ r.map)
 
 -- the same of the table, once the map was there
-abbrev pub MissesTable : Option Files → Request → ℕ → ℕ → List ℕ → Type 0
-MissesTable files r had has missed = Rose had has × (missed ≡ r.table) × ((map : List ℕ) × IsText files r.map map_limit map)
+abbrev pub MissesTable : ShelfState → ShelfState → Request → Type 0
+MissesTable old new r =
+    HasRisen old.fetch_faults new.fetch_faults × (new.missed ≡ r.table) × ((map : List ℕ) × IsText old.files r.map MAP_BYTES map)
 
--- the map was missed, or the table once the map was there, and the line says which
-abbrev pub IsMissed : Option Files → Option (List ℕ) → Option (List ℕ) → Request → List ℕ → Type 0
-IsMissed files before after r missed =
-    ((missed ≡ r.map) × (after ≡ spoken before (codes "read fault: map\n")))
-    ⊎ ((missed ≡ r.table) × (after ≡ spoken before (codes "read fault: table\n")) × ((map : List ℕ) × IsText files r.map map_limit map))
+-- Nothing has changed but what was said, the count of fetching and the name that was missed.
+abbrev pub OnlyMisses : ShelfState → ShelfState → Type 0
+OnlyMisses old new = new ≡ record old { said = new.said; fetch_faults = new.fetch_faults; missed = new.missed }
 
--- a fetch of this run failed, so the count rose, and that file was missed
-pub record IsReadFault (files : Option Files) (before after : Option (List ℕ)) (words : List (List ℕ)) (had has : ℕ) (missed : List ℕ) : Type 0 where
+-- a file was missed, the map or the table once the map was there, and only the line that tells which was said
+pub record SaysReadFault (old new : ShelfState) (words : List (List ℕ)) : Type 0 where
   pub request : Request
   pub spelled : Spells words request
-  pub rose : Rose had has
-  pub which : IsMissed files before after request missed
+  pub which : (MissesMap old new request × (new.said ≡ with_said old.said (codes "read fault: map\n")))
+      ⊎ (MissesTable old new request × (new.said ≡ with_said old.said (codes "read fault: table\n")))
+  pub same : OnlyMisses old new
+
+-- ---- every run
 
 -- each file that is due is as before, or holds a prefix of its due text or all of it; other files are as before
-abbrev pub IsPartlyKept : Option Files → Option Files → List (List ℕ) → Type 0
-IsPartlyKept old new words =
-    (new ≡ old) ⊎ ((r : Request) × (s : Stated) × Spells words r × Answered old r s × IsPartlyPut old new (dues r s))
+abbrev pub KeepsPartly : Option Files → Option Files → List (List ℕ) → Type 0
+KeepsPartly old new words =
+    (new ≡ old) ⊎ ((r : Request) × (s : Outcome) × Spells words r × AnswersFiles old r s × IsPartlyPut old new (dues r s))
 
--- the line that a run is due to say, whose fetches failed so often before it and after it and missed that file last
-pub data IsDueLine (files : Option Files) (words : List (List ℕ)) (had has : ℕ) (missed : List ℕ) : List ℕ → Type 0 where
-  usage : ((r : Request) → ¬ Spells words r) → IsDueLine files words had has missed usage_line
-  refusal : (r : Request) (line : List ℕ) → Spells words r → IsRefused files r line → IsDueLine files words had has missed line
-  map_missed : (r : Request) → Spells words r → MissesMap r had has missed → IsDueLine files words had has missed (codes "read fault: map\n")
-  table_missed : (r : Request) → Spells words r → MissesTable files r had has missed → IsDueLine files words had has missed (codes "read fault: table\n")
-  reported : (r : Request) (s : Stated) → Spells words r → Answered files r s → IsDueLine files words had has missed (report s)
+-- the line that a run is due to say; the report is due only once all else that is due is stored
+pub data IsDueLine (old new : ShelfState) (words : List (List ℕ)) : List ℕ → Type 0 where
+  usage : ((r : Request) → ¬ Spells words r) → IsDueLine old new words usage_line
+  refusal : (r : Request) (line : List ℕ) → Spells words r → RefusesFiles old.files r line → IsDueLine old new words line
+  map_missed : (r : Request) → Spells words r → MissesMap old new r → IsDueLine old new words (codes "read fault: map\n")
+  table_missed : (r : Request) → Spells words r → MissesTable old new r → IsDueLine old new words (codes "read fault: table\n")
+  reported : (r : Request) (s : Outcome) → Spells words r → AnswersFiles old.files r s → new.files ≡ all_stored old.files (dues r s)
+      → IsDueLine old new words (report s)
 
 -- what was said is a prefix of the due line or all of it
-abbrev pub IsHeard : Option Files → Option (List ℕ) → Option (List ℕ) → List (List ℕ) → ℕ → ℕ → List ℕ → Type 0
-IsHeard files before after words had has missed =
-    (after ≡ before) ⊎ ((line : List ℕ) × IsDueLine files words had has missed line × IsPartlySpoken before after line)
-
--- told files hold a map and a table that are accepted, and this is their problem
-pub record IsProblemOf (files : Option Files) (words : List (List ℕ)) (p : Plan) : Type 0 where
-  pub told : Files
-  pub told_is : files ≡ Some told
-  pub request : Request
-  pub spelled : Spells words request
-  pub accepts : Accepts (Some told) request p
-
--- told files are refused by the line
-pub record AreRefused (files : Option Files) (words : List (List ℕ)) (line : List ℕ) : Type 0 where
-  pub told : Files
-  pub told_is : files ≡ Some told
-  pub request : Request
-  pub spelled : Spells words request
-  pub refused : IsRefused (Some told) request line
+abbrev pub IsHeard : ShelfState → ShelfState → List (List ℕ) → Type 0
+IsHeard old new words = (new.said ≡ old.said) ⊎ ((line : List ℕ) × IsDueLine old new words line × IsPartlySpoken old.said new.said line)

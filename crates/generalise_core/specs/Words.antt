@@ -14,7 +14,7 @@ pub record IsName (name : List ℕ) : Type 0 where
   pub no_minus : slice_index name 0 ≢ 45
 
 -- no two of the names are equal
-pub record Differ (a b c d : List ℕ) : Type 0 where
+pub record AreDifferent (a b c d : List ℕ) : Type 0 where
   pub first_second : a ≢ b
   pub first_third : a ≢ c
   pub first_fourth : a ≢ d
@@ -23,21 +23,21 @@ pub record Differ (a b c d : List ℕ) : Type 0 where
   pub third_fourth : c ≢ d
 
 -- what words say: the operands in their order, and the value of `--splits` where it stands
-pub record Said : Type 0 where
+pub record Draft : Type 0 where
   pub operands : List (List ℕ)
   pub splits : Option (List ℕ)
 
-abbrev pub nothing_said : Said
-nothing_said = record { operands = []; splits = None }
+abbrev pub empty_draft : Draft
+empty_draft = record { operands = []; splits = None }
 
-abbrev pub with_operand : Said → List ℕ → Said
+abbrev pub with_operand : Draft → List ℕ → Draft
 with_operand had word = record { operands = had.operands ++ word ∷ []; splits = had.splits }
 
-abbrev pub with_splits : Said → List ℕ → Said
+abbrev pub with_splits : Draft → List ℕ → Draft
 with_splits had value = record { operands = had.operands; splits = Some value }
 
 -- The words say that much more: each is an operand, or it is the option `--splits` with its value behind it, which stands once at most.
-abbrev pub Says : Said → List (List ℕ) → Said → Type 0
+abbrev pub Says : Draft → List (List ℕ) → Draft → Type 0
 Says had [] all = had ≡ all
 Says had (word ∷ []) all = IsName word × (with_operand had word ≡ all)
 Says had (word ∷ next ∷ more) all =
@@ -51,16 +51,16 @@ pub record IsNothing (value : List ℕ) : Type 0 where
   pub zeros : All (λ digit. digit ≡ 48) value
 
 -- The format and the four files are said, and that no area is split.
-pub record IsForm (said : Said) (r : Request) : Type 0 where
+pub record IsForm (draft : Draft) (r : Request) : Type 0 where
   pub splits : List ℕ
-  pub said_is : said ≡ record { operands = codes "grid" ∷ r.map ∷ r.table ∷ r.out ∷ r.certificate ∷ []; splits = Some splits }
+  pub draft_is : draft ≡ record { operands = codes "grid" ∷ r.map ∷ r.table ∷ r.out ∷ r.certificate ∷ []; splits = Some splits }
   pub no_splits : IsNothing splits
-  pub differ : Differ r.map r.table r.out r.certificate
+  pub differ : AreDifferent r.map r.table r.out r.certificate
 
 -- The words spell the request: the command, and behind it the operands, with the option anywhere among them.
 pub record Spells (words : List (List ℕ)) (r : Request) : Type 0 where
   pub rest : List (List ℕ)
-  pub said : Said
+  pub draft : Draft
   pub command : words ≡ codes "generalise" ∷ rest
-  pub says : Says nothing_said rest said
-  pub form : IsForm said r
+  pub says : Says empty_draft rest draft
+  pub form : IsForm draft r

@@ -2,7 +2,7 @@
 ghost use Rattle.std.specs.Prelude.{◌≡◌, ◌++◌, ◌∷◌, ◌≤◌, [], map, length, codes, OnOk, IfOk};
 ghost use Rattle.std.specs.Fmt.{decimal};
 ghost use Rattle.std.specs.List.{range_with_len};
-ghost use Rattle.agg_base.specs.Texts.{ended};
+ghost use Rattle.agg_base.specs.Texts.{text_of_lines};
 ghost use Rattle.generalise_core.specs.Certificates.{certificate, report, head_lines, group_lines, leaf_lines, escape_line, kind_word};
 
 use crate::text::{
@@ -10,6 +10,7 @@ use crate::text::{
 };
 use crate::{Kind, Leaf, Outcome};
 use agg_base::NoMemory;
+use agg_base::limits::AREAS;
 use agg_model::Grouping;
 use std::alloc::Global;
 
@@ -26,7 +27,7 @@ fn word_of(kind: Kind) -> &'static [u8]
 // The six lines at the head.
 fn push_head(out: &mut Vec<u8>, outcome: &Outcome, regions: u32) -> Result<(), NoMemory>
     requires { regions ≡ length outcome.now.grouping.class_of }
-    ensures { OnOk result (out.new.items ≡ out.old.items ++ ended (head_lines outcome.now)) }
+    ensures { OnOk result (out.new.items ≡ out.old.items ++ text_of_lines (head_lines outcome.now)) }
 {
     push_line(out, b"aggregation 1")?;
     out.extend_from_slice(b"status ")?;
@@ -40,7 +41,7 @@ fn push_head(out: &mut Vec<u8>, outcome: &Outcome, regions: u32) -> Result<(), N
 
 // The classes of the regions, and the regions of the areas.
 fn push_groups(out: &mut Vec<u8>, grouping: &Grouping) -> Result<(), NoMemory>
-    ensures { OnOk result (out.new.items ≡ out.old.items ++ ended (group_lines grouping.now)) }
+    ensures { OnOk result (out.new.items ≡ out.old.items ++ text_of_lines (group_lines grouping.now)) }
 {
     push_classes(out, &grouping.class_of)?;
     push_regions(out, &grouping.region_of)?;
@@ -49,7 +50,7 @@ fn push_groups(out: &mut Vec<u8>, grouping: &Grouping) -> Result<(), NoMemory>
 
 // An escape row for each class.
 fn push_escapes(out: &mut Vec<u8>, classes: u8, area: u32, part: &[u32]) -> Result<(), NoMemory>
-    ensures { OnOk result (out.new.items ≡ out.old.items ++ ended (map (escape_line area part.now) (range_with_len 0 classes))) }
+    ensures { OnOk result (out.new.items ≡ out.old.items ++ text_of_lines (map (escape_line area part.now) (range_with_len 0 classes))) }
 {
     for class in 0..classes {
         push_escape(out, area, class, part)?;
@@ -59,7 +60,7 @@ fn push_escapes(out: &mut Vec<u8>, classes: u8, area: u32, part: &[u32]) -> Resu
 
 // The lines of a void leaf.
 fn push_void(out: &mut Vec<u8>, classes: u8, area: u32, part: &[u32]) -> Result<(), NoMemory>
-    ensures { OnOk result (out.new.items ≡ out.old.items ++ ended ((codes "v " ++ decimal classes) ∷ map (escape_line area part.now) (range_with_len 0 classes))) }
+    ensures { OnOk result (out.new.items ≡ out.old.items ++ text_of_lines ((codes "v " ++ decimal classes) ∷ map (escape_line area part.now) (range_with_len 0 classes))) }
 {
     push_count(out, b"v ", u32::from(classes))?;
     push_escapes(out, classes, area, part)?;
@@ -67,7 +68,7 @@ fn push_void(out: &mut Vec<u8>, classes: u8, area: u32, part: &[u32]) -> Result<
 }
 
 fn push_leaf(out: &mut Vec<u8>, leaf: &Leaf) -> Result<(), NoMemory>
-    ensures { OnOk result (out.new.items ≡ out.old.items ++ ended (leaf_lines leaf.now)) }
+    ensures { OnOk result (out.new.items ≡ out.old.items ++ text_of_lines (leaf_lines leaf.now)) }
 {
     match leaf {
         Leaf::Fixed => push_line(out, b"f"),
@@ -82,15 +83,15 @@ fn push_leaf(out: &mut Vec<u8>, leaf: &Leaf) -> Result<(), NoMemory>
 
 // How many regions a grouping has.
 fn region_count(grouping: &Grouping) -> u32
-    requires { length grouping.now.class_of ≤ 65536 }
+    requires { length grouping.now.class_of ≤ AREAS }
     ensures { result ≡ length grouping.now.class_of }
 {
     grouping.class_of.len() as u32
 }
 
 /// The certificate's one text.
-pub fn certificate(alloc: Global, outcome: &Outcome) -> Result<Vec<u8>, NoMemory>
-    requires { length outcome.now.grouping.class_of ≤ 65536 }
+pub(crate) fn certificate(alloc: Global, outcome: &Outcome) -> Result<Vec<u8>, NoMemory>
+    requires { length outcome.now.grouping.class_of ≤ AREAS }
     ensures { IfOk result (λ text. text.items ≡ certificate outcome.now) }
 {
     let mut out = Vec::new(alloc);
@@ -103,8 +104,8 @@ pub fn certificate(alloc: Global, outcome: &Outcome) -> Result<Vec<u8>, NoMemory
 }
 
 /// The report that is said.
-pub fn report(alloc: Global, outcome: &Outcome) -> Result<Vec<u8>, NoMemory>
-    requires { length outcome.now.grouping.class_of ≤ 65536 }
+pub(crate) fn report(alloc: Global, outcome: &Outcome) -> Result<Vec<u8>, NoMemory>
+    requires { length outcome.now.grouping.class_of ≤ AREAS }
     ensures { IfOk result (λ text. text.items ≡ report outcome.now) }
 {
     let regions = region_count(&outcome.grouping);

@@ -1,45 +1,36 @@
 // From the names of the files to what is put out.
-ghost use Rattle.std.specs.Prelude.{◌≡◌, ◌≤◌, IfOk, IfErr, length};
-ghost use Rattle.generalise_core.specs.Asked.{request};
-ghost use Rattle.generalise_core.specs.Plans.{IsDecided};
+ghost use Rattle.generalise_core.specs.Orders.{request};
+ghost use Rattle.generalise_core.specs.Plans.{Decides};
 
-use crate::{Asked, Halt, Plan, Stop, make_plan};
+use crate::{NoPlan, Order, Plan, Stop, make_plan};
+use agg_base::limits::{MAP_BYTES, TABLE_BYTES};
 use crew_work::Crew;
 use shelf_io::{Fetch, Shelf};
 use std::alloc::Global;
 
-/// The most bytes of a map.
-pub const MAP_LIMIT: usize = 67_108_864;
-
-/// The most bytes of a table.
-pub const TABLE_LIMIT: usize = 1_048_576;
-
 /// Fetches the map and the table, and makes of them what is to be put out.
 ///
 /// It is stopped where the map is not fetched or too long, where the table is not, and where what they hold is refused, by the first of
-/// these that applies.
-pub fn decide<S: Shelf, W: Crew>(
+/// these that applies. Unless a file is not fetched, the shelf stays as it was.
+pub(crate) fn decide<S: Shelf, W: Crew>(
     alloc: Global,
     shelf: &mut S,
-    asked: &Asked,
+    order: &Order,
     crew: &W,
-) -> Result<Plan, Halt>
-    ensures decided { IsDecided (S.files shelf.old) (request asked.now) (S.fetch_faults shelf.old) (S.fetch_faults shelf.new) (S.missed shelf.new) result }
-    ensures files { S.files shelf.new ≡ S.files shelf.old }
-    ensures said { S.said shelf.new ≡ S.said shelf.old }
-    ensures puts { S.put_faults shelf.new ≡ S.put_faults shelf.old }
+) -> Result<Plan, NoPlan>
+    ensures { Decides (S.state shelf.old) (S.state shelf.new) (request order.now) result }
 {
-    let map = match shelf.fetch(alloc, asked.map, MAP_LIMIT) {
+    let map = match shelf.fetch(alloc, order.map, MAP_BYTES) {
         Ok(bytes) => bytes,
-        Err(Fetch::Failed) => return Err(Halt::Stopped(Stop::MapMissed)),
-        Err(Fetch::TooLong) => return Err(Halt::Stopped(Stop::MapTooLong)),
-        Err(Fetch::Memory) => return Err(Halt::Memory),
+        Err(Fetch::Failed) => return Err(NoPlan::Stopped(Stop::MapMissed)),
+        Err(Fetch::TooLong) => return Err(NoPlan::Stopped(Stop::MapTooLong)),
+        Err(Fetch::Memory) => return Err(NoPlan::Memory),
     };
-    let table = match shelf.fetch(alloc, asked.table, TABLE_LIMIT) {
+    let table = match shelf.fetch(alloc, order.table, TABLE_BYTES) {
         Ok(bytes) => bytes,
-        Err(Fetch::Failed) => return Err(Halt::Stopped(Stop::TableMissed)),
-        Err(Fetch::TooLong) => return Err(Halt::Stopped(Stop::TableTooLong)),
-        Err(Fetch::Memory) => return Err(Halt::Memory),
+        Err(Fetch::Failed) => return Err(NoPlan::Stopped(Stop::TableMissed)),
+        Err(Fetch::TooLong) => return Err(NoPlan::Stopped(Stop::TableTooLong)),
+        Err(Fetch::Memory) => return Err(NoPlan::Memory),
     };
     make_plan(alloc, &map, &table, crew)
 }

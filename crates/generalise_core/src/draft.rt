@@ -1,7 +1,7 @@
 // What the words behind the command say.
 use std::marker::Model;
 
-// What words have said so far, which contracts see as `Said`.
+// What words have said so far: the operands in their order, and the value of `--splits` where it stands.
 #[derive(Drop)]
 pub(crate) struct Draft<'a> {
     operands: Vec<&'a str>,
@@ -10,20 +10,20 @@ pub(crate) struct Draft<'a> {
 
 impl<'a> Model for Draft<'a> {
     ghost use Rattle.std.specs.Prelude.{option_map};
-    ghost use Rattle.generalise_core.specs.Words.{Said};
+    ghost use Rattle.generalise_core.specs.Words.{Draft};
     ghost use Rattle.generalise_core.specs.Texts.{texts};
 
-    ghost Value = { Said };
+    ghost Value = { Draft };
 
     ghost view = { λ d. record { operands = texts d.operands.items; splits = option_map (λ x. x.now) d.splits } };
 }
 
 ghost use Rattle.std.specs.Prelude.{◌≡◌, ◌<◌, ◌≤◌, ℕ, ◌↔◌, List, length, drop, IsTrue, IfOk, IfSome, IfNone, OnOk, None};
-ghost use Rattle.generalise_core.specs.Words.{Request, Said, IsName, IsForm, Says, nothing_said, with_operand, with_splits};
-ghost use Rattle.generalise_core.specs.Asked.{request};
+ghost use Rattle.generalise_core.specs.Words.{Request, Draft, IsName, IsForm, Says, empty_draft, with_operand, with_splits};
+ghost use Rattle.generalise_core.specs.Orders.{request};
 
-use crate::Asked;
-use crate::words::{differ, is_nothing};
+use crate::Order;
+use crate::words::{are_different, is_nothing};
 use agg_base::{NoMemory, Words};
 use std::alloc::Global;
 
@@ -38,7 +38,7 @@ pub(crate) fn is_name(word: &str) -> bool
 impl<'a> Draft<'a> {
     // Nothing is said.
     fn start(alloc: Global) -> Draft<'a>
-        ensures { result ≡ nothing_said }
+        ensures { result ≡ empty_draft }
     {
         Draft {
             operands: Vec::new(alloc),
@@ -59,14 +59,14 @@ impl<'a> Draft<'a> {
         self.splits = Some(value);
     }
 
-    fn lacks_splits(&self) -> bool
+    fn is_without_splits(&self) -> bool
         ensures { IsTrue result ↔ (self.now.splits ≡ None) }
     {
         self.splits.is_none()
     }
 
     // What is asked for, where the words are in a form.
-    pub(crate) fn asked(&self) -> Option<Asked<'a>>
+    pub(crate) fn order(&self) -> Option<Order<'a>>
         ensures found { IfSome result (λ a. IsForm self.now (request a)) }
         ensures none { IfNone result ((r : Request) → ¬ IsForm self.now r) }
     {
@@ -74,10 +74,13 @@ impl<'a> Draft<'a> {
             return None;
         };
         let splits = self.splits?;
-        if *format != "grid" || !is_nothing(splits) || !differ(map, table, out, certificate) {
+        if *format != "grid"
+            || !is_nothing(splits)
+            || !are_different(map, table, out, certificate)
+        {
             return None;
         }
-        Some(Asked {
+        Some(Order {
             map,
             table,
             out,
@@ -94,8 +97,8 @@ fn take_word<'a>(
 ) -> Result<Option<usize>, NoMemory>
     requires within { at < length words.now }
     ensures next { IfOk result (λ r. IfSome r (λ next. (at < next) × (next ≤ length words.now))) }
-    ensures taken { IfOk result (λ r. IfSome r (λ next. (all : Said) → Says draft.new (drop next words.now) all ↔ Says draft.old (drop at words.now) all)) }
-    ensures none { IfOk result (λ r. IfNone r ((all : Said) → ¬ Says draft.old (drop at words.now) all)) }
+    ensures taken { IfOk result (λ r. IfSome r (λ next. (all : Draft) → Says draft.new (drop next words.now) all ↔ Says draft.old (drop at words.now) all)) }
+    ensures none { IfOk result (λ r. IfNone r ((all : Draft) → ¬ Says draft.old (drop at words.now) all)) }
 {
     let count = words.count();
     let word = words.word(at);
@@ -103,7 +106,7 @@ fn take_word<'a>(
         draft.take_operand(word)?;
         return Ok(Some(at + 1));
     }
-    if word != "--splits" || !draft.lacks_splits() || at + 1 == count {
+    if word != "--splits" || !draft.is_without_splits() || at + 1 == count {
         return Ok(None);
     }
     let value = words.word(at + 1);
@@ -115,10 +118,10 @@ fn take_word<'a>(
 }
 
 /// What the words behind the command say, or none where one of them may not stand there.
-pub(crate) fn read_said(alloc: Global, words: &Words) -> Result<Option<Draft<'_>>, NoMemory>
+pub(crate) fn read_draft(alloc: Global, words: &Words) -> Result<Option<Draft<'_>>, NoMemory>
     requires { 0 < length words.now }
-    ensures found { IfOk result (λ r. IfSome r (λ said. Says nothing_said (drop 1 words.now) said)) }
-    ensures none { IfOk result (λ r. IfNone r ((all : Said) → ¬ Says nothing_said (drop 1 words.now) all)) }
+    ensures found { IfOk result (λ r. IfSome r (λ said. Says empty_draft (drop 1 words.now) said)) }
+    ensures none { IfOk result (λ r. IfNone r ((all : Draft) → ¬ Says empty_draft (drop 1 words.now) all)) }
 {
     let mut draft = Draft::start(alloc);
     let mut at = 1;

@@ -12,13 +12,13 @@ mod text;
 mod top;
 mod words;
 
-pub use decision::decide;
-pub use outcome::{Kind, Leaf, Outcome};
-pub use plan::{Halt, Plan, make_plan};
+use decision::decide;
+use outcome::{Kind, Leaf, Outcome};
+use plan::{NoPlan, Plan, make_plan};
 pub use status::Status;
-pub use stop::Stop;
+use stop::Stop;
 pub use top::run;
-pub use words::{Asked, read_words};
+use words::{Order, read_words};
 
 #[cfg(test)]
 mod tests;

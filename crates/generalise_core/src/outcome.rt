@@ -4,7 +4,7 @@ use std::marker::Model;
 
 /// How an answer stands to its bound.
 #[derive(Clone, Copy, Debug, PartialEq, Eq)]
-pub enum Kind {
+pub(crate) enum Kind {
     /// The bound is the cost.
     Done,
     /// The bound is below the cost.
@@ -15,7 +15,7 @@ pub enum Kind {
 
 /// What proves the bound.
 #[derive(Debug, Drop)]
-pub enum Leaf {
+pub(crate) enum Leaf {
     /// Each area has one class alone.
     Fixed,
     /// No row: a grouping costs 0 or more.
@@ -30,7 +30,7 @@ pub enum Leaf {
 
 /// An answer, as the certificate and the report state it, before its map is drawn.
 #[derive(Drop)]
-pub struct Outcome {
+pub(crate) struct Outcome {
     pub kind: Kind,
     /// The number of areas.
     pub areas: u32,
@@ -46,10 +46,10 @@ pub struct Outcome {
 }
 
 impl Model for Outcome {
-    ghost use Rattle.generalise_core.specs.Certificates.{Stated};
+    ghost use Rattle.generalise_core.specs.Certificates.{Outcome};
     ghost use Rattle.std.specs.Prelude.{None};
 
-    ghost Value = { Stated };
+    ghost Value = { Outcome };
 
     ghost view = { λ o. record { kind = o.kind; areas = o.areas; passed = o.passed; grouping = o.grouping; cost = o.cost; bound = o.bound; leaf = o.leaf; map = None } };
 }

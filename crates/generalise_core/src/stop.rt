@@ -4,7 +4,7 @@ use agg_base::Text;
 
 /// Why a run stores nothing.
 #[derive(Drop)]
-pub enum Stop {
+pub(crate) enum Stop {
     /// The words are in no form.
     Usage,
     /// The map was not fetched.
@@ -27,7 +27,7 @@ impl Stop {
     ghost use Rattle.generalise_core.specs.Stops.{line_of, status_of_stop};
 
     /// The line that is said.
-    pub fn line(&self) -> &str
+    pub(crate) fn line(&self) -> &str
         ensures { result.now ≡ line_of self.now }
     {
         match self {
@@ -41,7 +41,7 @@ impl Stop {
     }
 
     /// The status that the run ends with, once the line is said.
-    pub fn status(&self) -> Status
+    pub(crate) fn status(&self) -> Status
         ensures { result ≡ status_of_stop self.now }
     {
         match self {

@@ -2,7 +2,7 @@
 use super::*;
 use agg_base::{NoMemory, Text, Words};
 use crew_work::Alone;
-use shelf_io::{MemShelf, SureShelf, names_differ};
+use shelf_io::{MemShelf, SureShelf, are_names_distinct};
 use std::alloc::Global;
 use std::process::Abort;
 use std::test::Fail;
@@ -45,7 +45,7 @@ struct Ending {
 }
 
 // A file's bytes, where it is there.
-fn kept(alloc: Global, shelf: &MemShelf, name: &str) -> Result<Option<Vec<u8>>, NoMemory> {
+fn bytes_in(alloc: Global, shelf: &MemShelf, name: &str) -> Result<Option<Vec<u8>>, NoMemory> {
     match shelf.file(name) {
         Some(bytes) => Ok(Some(Vec::from_slice(alloc, bytes)?)),
         None => Ok(None),
@@ -61,14 +61,14 @@ fn ending_of(
     failing: &[u64],
 ) -> Result<Ending, NoMemory> {
     let files = files_of(alloc, map, table)?;
-    assert!(rt; names_differ(&files));
+    assert!(rt; are_names_distinct(&files));
     let mut shelf = MemShelf::new(alloc, files, Vec::from_slice(alloc, failing)?);
     let code = run(alloc, &words_of(alloc, words)?, &mut shelf, &Alone).code();
     Ok(Ending {
         code,
         said: Vec::from_slice(alloc, shelf.said())?,
-        certificate: kept(alloc, &shelf, "c")?,
-        map: kept(alloc, &shelf, "o")?,
+        certificate: bytes_in(alloc, &shelf, "c")?,
+        map: bytes_in(alloc, &shelf, "o")?,
     })
 }
 
@@ -138,7 +138,7 @@ fn too_high_thresholds_are_hopeless(rt: HostRuntime) -> Result<(), Fail> {
 }
 
 // Whether a run ends so, says just that and stores nothing.
-fn stops(
+fn is_stopped(
     rt: &impl Abort,
     alloc: Global,
     words: &[&str],
@@ -157,14 +157,14 @@ fn stops(
 }
 
 // Whether a run on this map and table is refused by this line.
-fn refuses(
+fn is_refused(
     rt: &impl Abort,
     alloc: Global,
     map: &[u8],
     table: &[u8],
     line: &[u8],
 ) -> Result<bool, NoMemory> {
-    stops(rt, alloc, &FORM, map, table, 65, line)
+    is_stopped(rt, alloc, &FORM, map, table, 65, line)
 }
 
 // A map of one row with these cells.
@@ -183,15 +183,15 @@ const CENTRED: &[u8] = b"ncols 3\nnrows 1\nxllcenter 0\nyllcorner 0\ncellsize 1\
 #[test]
 fn maps_are_refused(rt: HostRuntime) -> Result<(), Fail> {
     let alloc = rt.alloc();
-    assert!(rt; refuses(&rt, alloc, CENTRED, TABLE, b"refused: map Centred 3\n")?);
-    assert!(rt; refuses(&rt, alloc, b"", TABLE, b"refused: map Header 1\n")?);
+    assert!(rt; is_refused(&rt, alloc, CENTRED, TABLE, b"refused: map Centred 3\n")?);
+    assert!(rt; is_refused(&rt, alloc, b"", TABLE, b"refused: map Header 1\n")?);
     for (cells, line) in [
         (&b"1 2"[..], &b"refused: map Count 2\n"[..]),
         (&b"1 2.5 1"[..], &b"refused: map Cell 0 1\n"[..]),
         (&b"1 3 1"[..], &b"refused: classes UnknownClass 1\n"[..]),
     ] {
         let map = row_of(alloc, cells)?;
-        assert!(rt; refuses(&rt, alloc, &map, TABLE, line)?);
+        assert!(rt; is_refused(&rt, alloc, &map, TABLE, line)?);
     }
     Ok(())
 }
@@ -201,10 +201,10 @@ fn tables_are_refused(rt: HostRuntime) -> Result<(), Fail> {
     let alloc = rt.alloc();
     let repeated = b"classes 1\nborder 1\nclass 4 a\nclass 4 a\n";
     let line = b"refused: table RepeatedClass 4\n";
-    assert!(rt; refuses(&rt, alloc, MAP, repeated, line)?);
+    assert!(rt; is_refused(&rt, alloc, MAP, repeated, line)?);
     let version = b"classes 2\n";
     let line = b"refused: table Line 1 Version\n";
-    assert!(rt; refuses(&rt, alloc, MAP, version, line)?);
+    assert!(rt; is_refused(&rt, alloc, MAP, version, line)?);
     Ok(())
 }
 
@@ -213,15 +213,15 @@ fn tables_are_refused(rt: HostRuntime) -> Result<(), Fail> {
 fn the_first_refusal_is_said(rt: HostRuntime) -> Result<(), Fail> {
     let alloc = rt.alloc();
     let version = b"classes 2\n";
-    assert!(rt; refuses(&rt, alloc, CENTRED, version, b"refused: map Centred 3\n")?);
+    assert!(rt; is_refused(&rt, alloc, CENTRED, version, b"refused: map Centred 3\n")?);
     let strange = row_of(alloc, b"1 3 1")?;
     let line = b"refused: table Line 1 Version\n";
-    assert!(rt; refuses(&rt, alloc, &strange, version, line)?);
+    assert!(rt; is_refused(&rt, alloc, &strange, version, line)?);
     let mut long = Vec::new(alloc);
     for _ in 0..1_048_577u32 {
         long.push(b'#')?;
     }
-    assert!(rt; refuses(&rt, alloc, CENTRED, &long, b"refused: table TooLong\n")?);
+    assert!(rt; is_refused(&rt, alloc, CENTRED, &long, b"refused: table TooLong\n")?);
     Ok(())
 }
 
@@ -245,7 +245,7 @@ fn a_board_of_single_cells_has_too_many_patches(rt: HostRuntime) -> Result<(), F
     for row in 0..256u32 {
         push_row(&mut map, row % 2 == 1)?;
     }
-    assert!(rt; refuses(&rt, alloc, &map, TABLE, b"refused: map Limit Areas\n")?);
+    assert!(rt; is_refused(&rt, alloc, &map, TABLE, b"refused: map Limit Areas\n")?);
     Ok(())
 }
 
@@ -330,7 +330,7 @@ fn holes_may_touch_at_a_corner(rt: HostRuntime) -> Result<(), Fail> {
 
 // Whether these words are in no form.
 fn is_usage(rt: &impl Abort, alloc: Global, words: &[&str]) -> Result<bool, NoMemory> {
-    stops(rt, alloc, words, MAP, TABLE, 64, USAGE)
+    is_stopped(rt, alloc, words, MAP, TABLE, 64, USAGE)
 }
 
 #[test]
@@ -402,7 +402,7 @@ fn an_option_stands_once(rt: HostRuntime) -> Result<(), Fail> {
 }
 
 // Whether a run with these failing calls ends so, says just that and leaves that certificate and that map.
-fn leaves(
+fn is_left(
     rt: &impl Abort,
     alloc: Global,
     failing: &[u64],
@@ -419,10 +419,10 @@ fn leaves(
 fn each_call_fails_in_turn(rt: HostRuntime) -> Result<(), Fail> {
     let alloc = rt.alloc();
     let none = b"(no file)";
-    assert!(rt; leaves(&rt, alloc, &[0], (74, b"read fault: map\n"), none, none)?);
-    assert!(rt; leaves(&rt, alloc, &[1], (74, b"read fault: table\n"), none, none)?);
+    assert!(rt; is_left(&rt, alloc, &[0], (74, b"read fault: map\n"), none, none)?);
+    assert!(rt; is_left(&rt, alloc, &[1], (74, b"read fault: table\n"), none, none)?);
     assert!(rt;
-        leaves(
+        is_left(
             &rt,
             alloc,
             &[2],
@@ -432,7 +432,7 @@ fn each_call_fails_in_turn(rt: HostRuntime) -> Result<(), Fail> {
         )?
     );
     assert!(rt;
-        leaves(
+        is_left(
             &rt,
             alloc,
             &[3],
@@ -442,8 +442,8 @@ fn each_call_fails_in_turn(rt: HostRuntime) -> Result<(), Fail> {
         )?
     );
     let half = b"within\nareas 3\npassed 0\nregio";
-    assert!(rt; leaves(&rt, alloc, &[4], (75, half), WITHIN, DRAWN)?);
-    assert!(rt; leaves(&rt, alloc, &[0, 1], (75, b"read fau"), none, none)?);
+    assert!(rt; is_left(&rt, alloc, &[4], (75, half), WITHIN, DRAWN)?);
+    assert!(rt; is_left(&rt, alloc, &[0, 1], (75, b"read fau"), none, none)?);
     Ok(())
 }
 
@@ -452,7 +452,7 @@ fn a_missing_table_is_a_read_fault(rt: HostRuntime) -> Result<(), Fail> {
     let alloc = rt.alloc();
     let mut files = Vec::new(alloc);
     files.push((Text::of(alloc, "m")?, Vec::from_slice(alloc, MAP)?))?;
-    assert!(rt; names_differ(&files));
+    assert!(rt; are_names_distinct(&files));
     let mut shelf = MemShelf::new(alloc, files, Vec::new(alloc));
     let status = run(alloc, &words_of(alloc, &FORM)?, &mut shelf, &Alone);
     assert_eq!(rt; status, Status::ReadFault);
@@ -464,7 +464,7 @@ fn a_missing_table_is_a_read_fault(rt: HostRuntime) -> Result<(), Fail> {
 fn a_sure_shelf_takes_all(rt: HostRuntime) -> Result<(), Fail> {
     let alloc = rt.alloc();
     let files = files_of(alloc, MAP, TABLE)?;
-    assert!(rt; names_differ(&files));
+    assert!(rt; are_names_distinct(&files));
     let mut shelf = SureShelf::new(alloc, files);
     let status = run(alloc, &words_of(alloc, &FORM)?, &mut shelf, &Alone);
     assert_eq!(rt; status, Status::Within);

@@ -1,14 +1,14 @@
 // Texts that are made of lines, one piece after another.
 ghost use Rattle.std.specs.Prelude.{◌≡◌, ◌++◌, ◌∷◌, [], map, pos, OnOk};
 ghost use Rattle.std.specs.Fmt.{decimal, signed_decimal};
-ghost use Rattle.agg_base.specs.Texts.{ended};
+ghost use Rattle.agg_base.specs.Texts.{text_of_lines};
 ghost use Rattle.generalise_core.specs.Certificates.{number_or_dash, region_line, area_line, escape_line, spaced_numbers};
 
 use agg_base::{NoMemory, print_signed};
 
 /// Appends a line and its line feed.
 pub(crate) fn push_line(out: &mut Vec<u8>, line: &[u8]) -> Result<(), NoMemory>
-    ensures { OnOk result (out.new.items ≡ out.old.items ++ ended (line.now ∷ [])) }
+    ensures { OnOk result (out.new.items ≡ out.old.items ++ text_of_lines (line.now ∷ [])) }
 {
     out.extend_from_slice(line)?;
     out.push(b'\n')?;
@@ -17,7 +17,7 @@ pub(crate) fn push_line(out: &mut Vec<u8>, line: &[u8]) -> Result<(), NoMemory>
 
 /// Appends a line of a word, with its blank, and a number.
 pub(crate) fn push_number(out: &mut Vec<u8>, word: &[u8], number: i128) -> Result<(), NoMemory>
-    ensures { OnOk result (out.new.items ≡ out.old.items ++ ended ((word.now ++ signed_decimal number) ∷ [])) }
+    ensures { OnOk result (out.new.items ≡ out.old.items ++ text_of_lines ((word.now ++ signed_decimal number) ∷ [])) }
 {
     out.extend_from_slice(word)?;
     print_signed(out, number)?;
@@ -27,7 +27,7 @@ pub(crate) fn push_number(out: &mut Vec<u8>, word: &[u8], number: i128) -> Resul
 
 /// Appends a line of a word, with its blank, and a count.
 pub(crate) fn push_count(out: &mut Vec<u8>, word: &[u8], count: u32) -> Result<(), NoMemory>
-    ensures { OnOk result (out.new.items ≡ out.old.items ++ ended ((word.now ++ decimal count) ∷ [])) }
+    ensures { OnOk result (out.new.items ≡ out.old.items ++ text_of_lines ((word.now ++ decimal count) ∷ [])) }
 {
     push_number(out, word, i128::from(count))
 }
@@ -38,7 +38,7 @@ pub(crate) fn push_number_or_dash(
     word: &[u8],
     number: Option<i128>,
 ) -> Result<(), NoMemory>
-    ensures { OnOk result (out.new.items ≡ out.old.items ++ ended ((word.now ++ number_or_dash number) ∷ [])) }
+    ensures { OnOk result (out.new.items ≡ out.old.items ++ text_of_lines ((word.now ++ number_or_dash number) ∷ [])) }
 {
     match number {
         Some(number) => push_number(out, word, number),
@@ -51,7 +51,7 @@ pub(crate) fn push_number_or_dash(
 
 /// Appends a line for each region, with its class.
 pub(crate) fn push_classes(out: &mut Vec<u8>, classes: &[u8]) -> Result<(), NoMemory>
-    ensures { OnOk result (out.new.items ≡ out.old.items ++ ended (map region_line classes.now)) }
+    ensures { OnOk result (out.new.items ≡ out.old.items ++ text_of_lines (map region_line classes.now)) }
 {
     for class in classes {
         push_count(out, b"r ", u32::from(*class))?;
@@ -61,7 +61,7 @@ pub(crate) fn push_classes(out: &mut Vec<u8>, classes: &[u8]) -> Result<(), NoMe
 
 /// Appends a line for each area, with its region.
 pub(crate) fn push_regions(out: &mut Vec<u8>, regions: &[u32]) -> Result<(), NoMemory>
-    ensures { OnOk result (out.new.items ≡ out.old.items ++ ended (map area_line regions.now)) }
+    ensures { OnOk result (out.new.items ≡ out.old.items ++ text_of_lines (map area_line regions.now)) }
 {
     for region in regions {
         push_count(out, b"a ", *region)?;
@@ -110,7 +110,7 @@ pub(crate) fn push_escape(
     class: u8,
     part: &[u32],
 ) -> Result<(), NoMemory>
-    ensures { OnOk result (out.new.items ≡ out.old.items ++ ended (escape_line area part.now class ∷ [])) }
+    ensures { OnOk result (out.new.items ≡ out.old.items ++ text_of_lines (escape_line area part.now class ∷ [])) }
 {
     out.extend_from_slice(b"e 1 ")?;
     push_first(out, area)?;

@@ -1,34 +1,38 @@
 // The top call.
-ghost use Rattle.std.specs.Prelude.{◌≡◌, ◌≢◌, ◌⊎◌, ◌≤◌, [], ◌∷◌, ℕ, List, Option, IfOk, OnOk, OnErr, IfErr, IsErrOf, take};
-ghost use Rattle.shelf_io.specs.Files.{stored, spoken, IsPartlyStored, IsPartlySpoken};
-ghost use Rattle.shelf_io.specs.Causes.{Rose};
-ghost use Rattle.agg_model.specs.Plan.{Groups, IsFeasible, Plan as Setting};
+ghost use Rattle.std.specs.Prelude.{◌≡◌, ◌≢◌, ◌⊎◌, [], ◌∷◌, ℕ, ℤ, ◌≤ℤ◌, ◌<ℤ◌, List, Option, Some, OnOk, OnErr, IfErr, IsErrOf};
+ghost use Rattle.shelf_io.specs.Files.{with_file, with_said, IsPartlyStored, IsPartlySpoken};
+ghost use Rattle.shelf_io.specs.Causes.{HasRisen};
+ghost use Rattle.agg_model.specs.Problem.{Grouping, IsFeasible, Problem, cost};
+ghost use Rattle.coverage_check.specs.Kept.{odds_of};
+ghost use Rattle.map_drawing.specs.Drawn.{IsDrawnMap};
 ghost use Rattle.generalise_core.specs.Words.{Request, Spells};
-ghost use Rattle.generalise_core.specs.Asked.{request};
+ghost use Rattle.generalise_core.specs.Orders.{request};
 ghost use Rattle.generalise_core.specs.Texts.{text_of};
-ghost use Rattle.generalise_core.specs.PlanDues.{due};
+ghost use Rattle.generalise_core.specs.PlanDues.{due_of};
 ghost use Rattle.generalise_core.specs.declared.outcome.Kind.{Kind};
-ghost use Rattle.generalise_core.specs.Certificates.{Stated};
-ghost use Rattle.generalise_core.specs.Codes.{status_of};
+ghost use Rattle.generalise_core.specs.Answers.{AnswersProblem};
+ghost use Rattle.generalise_core.specs.Codes.{status_of, HasGrouping, MayEndAs, MayFailAs};
 ghost use Rattle.generalise_core.specs.Stops.{line_of, status_of_stop, usage_line};
 ghost use Rattle.generalise_core.specs.Puts.{all_stored, IsPartlyPut};
-ghost use Rattle.generalise_core.specs.Runs.{map_due, MayEndAs, MayFailAs, IsKept, IsRefusal, IsReadFault, IsPartlyKept, IsHeard, IsProblemOf, AreRefused};
+ghost use Rattle.generalise_core.specs.States.{with_line, with_all, OnlySays, OnlyStores, OnlyPuts};
+ghost use Rattle.generalise_core.specs.FileTexts.{AcceptsTold, RefusesTold};
+ghost use Rattle.generalise_core.specs.Runs.{map_due, PutsOut, SaysRefusal, SaysReadFault, KeepsPartly, IsHeard};
 
-use crate::{Asked, Halt, Plan, Status, Stop, decide, read_words};
+use crate::{NoPlan, Order, Plan, Status, Stop, decide, read_words};
 use agg_base::Words;
 use crew_work::Crew;
 use shelf_io::{Put, Shelf};
 use std::alloc::Global;
 
 // Says why nothing is stored, and ends as that says unless saying fails.
+#[tactic(auto, using(crate::proofs::StateLemmas::says_whole, crate::proofs::StateLemmas::says_part))]
 fn tell<S: Shelf>(shelf: &mut S, stop: &Stop) -> Status
     ensures status { MayEndAs (status_of_stop stop.now) result }
-    ensures heard { result ≡ status_of_stop stop.now → S.said shelf.new ≡ spoken (S.said shelf.old) (line_of stop.now) }
-    ensures partly { IsPartlySpoken (S.said shelf.old) (S.said shelf.new) (line_of stop.now) }
-    ensures files { S.files shelf.new ≡ S.files shelf.old }
-    ensures fetches { S.fetch_faults shelf.new ≡ S.fetch_faults shelf.old }
-    ensures missed { S.missed shelf.new ≡ S.missed shelf.old }
-    ensures cause { result ≡ Status.WriteFault → Rose (S.put_faults shelf.old) (S.put_faults shelf.new) }
+    ensures heard { result ≡ status_of_stop stop.now → S.state shelf.new ≡ with_line (S.state shelf.old) (line_of stop.now) }
+    ensures partly { IsPartlySpoken (S.state shelf.old).said (S.state shelf.new).said (line_of stop.now) }
+    ensures frame { OnlySays (S.state shelf.old) (S.state shelf.new) }
+    ensures cause { result ≡ Status.WriteFault → HasRisen (S.state shelf.old).put_faults (S.state shelf.new).put_faults }
+    ensures quiet { result ≢ Status.WriteFault → (S.state shelf.new).put_faults ≡ (S.state shelf.old).put_faults }
 {
     match shelf.say(stop.line().as_bytes()) {
         Ok(()) => stop.status(),
@@ -38,15 +42,14 @@ fn tell<S: Shelf>(shelf: &mut S, stop: &Stop) -> Status
 }
 
 // Makes one file hold a text, and ends the run where that fails.
+#[tactic(auto, using(crate::proofs::StateLemmas::stores_whole))]
 fn put_out<S: Shelf>(shelf: &mut S, name: &str, text: &[u8]) -> Result<(), Status>
-    ensures stored { OnOk result (S.files shelf.new ≡ stored (S.files shelf.old) name.now text.now) }
-    ensures partly { OnErr result (IsPartlyStored (S.files shelf.old) (S.files shelf.new) name.now text.now) }
-    ensures said { S.said shelf.new ≡ S.said shelf.old }
-    ensures fetches { S.fetch_faults shelf.new ≡ S.fetch_faults shelf.old }
-    ensures missed { S.missed shelf.new ≡ S.missed shelf.old }
-    ensures later { S.put_faults shelf.old ≤ S.put_faults shelf.new }
+    ensures whole { OnOk result (S.state shelf.new ≡ record (S.state shelf.old) { files = with_file (S.state shelf.old).files name.now text.now }) }
+    ensures partly { OnErr result (IsPartlyStored (S.state shelf.old).files (S.state shelf.new).files name.now text.now) }
+    ensures frame { OnlyStores (S.state shelf.old) (S.state shelf.new) }
     ensures error { IfErr result (λ status. (status ≡ Status.WriteFault) ⊎ (status ≡ Status.Memory)) }
-    ensures cause { IsErrOf result Status.WriteFault → Rose (S.put_faults shelf.old) (S.put_faults shelf.new) }
+    ensures cause { IsErrOf result Status.WriteFault → HasRisen (S.state shelf.old).put_faults (S.state shelf.new).put_faults }
+    ensures quiet { ¬ (IsErrOf result Status.WriteFault) → (S.state shelf.new).put_faults ≡ (S.state shelf.old).put_faults }
 {
     match shelf.store(name, text) {
         Ok(()) => Ok(()),
@@ -56,15 +59,14 @@ fn put_out<S: Shelf>(shelf: &mut S, name: &str, text: &[u8]) -> Result<(), Statu
 }
 
 // Says the report, and ends with the plan's status unless that fails.
+#[tactic(auto, using(crate::proofs::StateLemmas::says_whole, crate::proofs::StateLemmas::says_part))]
 fn say_report<S: Shelf>(shelf: &mut S, plan: &Plan) -> Status
     ensures status { MayEndAs (status_of plan.now.kind) result }
-    ensures heard { result ≡ status_of plan.now.kind → S.said shelf.new ≡ spoken (S.said shelf.old) plan.now.report.items }
-    ensures partly { IsPartlySpoken (S.said shelf.old) (S.said shelf.new) plan.now.report.items }
-    ensures files { S.files shelf.new ≡ S.files shelf.old }
-    ensures fetches { S.fetch_faults shelf.new ≡ S.fetch_faults shelf.old }
-    ensures missed { S.missed shelf.new ≡ S.missed shelf.old }
-    ensures later { S.put_faults shelf.old ≤ S.put_faults shelf.new }
-    ensures cause { result ≡ Status.WriteFault → Rose (S.put_faults shelf.old) (S.put_faults shelf.new) }
+    ensures heard { result ≡ status_of plan.now.kind → S.state shelf.new ≡ with_line (S.state shelf.old) plan.now.report.items }
+    ensures partly { IsPartlySpoken (S.state shelf.old).said (S.state shelf.new).said plan.now.report.items }
+    ensures frame { OnlySays (S.state shelf.old) (S.state shelf.new) }
+    ensures cause { result ≡ Status.WriteFault → HasRisen (S.state shelf.old).put_faults (S.state shelf.new).put_faults }
+    ensures quiet { result ≢ Status.WriteFault → (S.state shelf.new).put_faults ≡ (S.state shelf.old).put_faults }
 {
     match shelf.say(&plan.report) {
         Ok(()) => Status::of(plan.kind),
@@ -74,15 +76,14 @@ fn say_report<S: Shelf>(shelf: &mut S, plan: &Plan) -> Status
 }
 
 // Makes the file of the map hold it, where there is one, and ends the run where that fails.
+
 fn put_map<S: Shelf>(shelf: &mut S, name: &str, map: &Option<Vec<u8>>) -> Result<(), Status>
-    ensures stored { OnOk result (S.files shelf.new ≡ all_stored (S.files shelf.old) (map_due name.now (text_of map.now))) }
-    ensures partly { OnErr result (IsPartlyPut (S.files shelf.old) (S.files shelf.new) (map_due name.now (text_of map.now))) }
-    ensures said { S.said shelf.new ≡ S.said shelf.old }
-    ensures fetches { S.fetch_faults shelf.new ≡ S.fetch_faults shelf.old }
-    ensures missed { S.missed shelf.new ≡ S.missed shelf.old }
-    ensures later { S.put_faults shelf.old ≤ S.put_faults shelf.new }
+    ensures whole { OnOk result (S.state shelf.new ≡ record (S.state shelf.old) { files = all_stored (S.state shelf.old).files (map_due name.now (text_of map.now)) }) }
+    ensures partly { OnErr result (IsPartlyPut (S.state shelf.old).files (S.state shelf.new).files (map_due name.now (text_of map.now))) }
+    ensures frame { OnlyStores (S.state shelf.old) (S.state shelf.new) }
     ensures error { IfErr result (λ status. (status ≡ Status.WriteFault) ⊎ (status ≡ Status.Memory)) }
-    ensures cause { IsErrOf result Status.WriteFault → Rose (S.put_faults shelf.old) (S.put_faults shelf.new) }
+    ensures cause { IsErrOf result Status.WriteFault → HasRisen (S.state shelf.old).put_faults (S.state shelf.new).put_faults }
+    ensures quiet { ¬ (IsErrOf result Status.WriteFault) → (S.state shelf.new).put_faults ≡ (S.state shelf.old).put_faults }
 {
     match map {
         Some(text) => put_out(shelf, name, text),
@@ -91,32 +92,32 @@ fn put_map<S: Shelf>(shelf: &mut S, name: &str, map: &Option<Vec<u8>>) -> Result
 }
 
 // Stores what is due.
-fn put_all<S: Shelf>(shelf: &mut S, asked: &Asked, plan: &Plan) -> Result<(), Status>
-    ensures stored { OnOk result (S.files shelf.new ≡ all_stored (S.files shelf.old) (due asked.now plan.now)) }
-    ensures partly { OnErr result (IsPartlyPut (S.files shelf.old) (S.files shelf.new) (due asked.now plan.now)) }
-    ensures said { S.said shelf.new ≡ S.said shelf.old }
-    ensures fetches { S.fetch_faults shelf.new ≡ S.fetch_faults shelf.old }
-    ensures missed { S.missed shelf.new ≡ S.missed shelf.old }
-    ensures later { S.put_faults shelf.old ≤ S.put_faults shelf.new }
+#[tactic(auto, using(crate::proofs::StateLemmas::stores_more))]
+fn put_all<S: Shelf>(shelf: &mut S, order: &Order, plan: &Plan) -> Result<(), Status>
+    ensures whole { OnOk result (S.state shelf.new ≡ record (S.state shelf.old) { files = all_stored (S.state shelf.old).files (due_of order.now plan.now) }) }
+    ensures partly { OnErr result (IsPartlyPut (S.state shelf.old).files (S.state shelf.new).files (due_of order.now plan.now)) }
+    ensures frame { OnlyStores (S.state shelf.old) (S.state shelf.new) }
     ensures error { IfErr result (λ status. (status ≡ Status.WriteFault) ⊎ (status ≡ Status.Memory)) }
-    ensures cause { IsErrOf result Status.WriteFault → Rose (S.put_faults shelf.old) (S.put_faults shelf.new) }
+    ensures cause { IsErrOf result Status.WriteFault → HasRisen (S.state shelf.old).put_faults (S.state shelf.new).put_faults }
+    ensures quiet { ¬ (IsErrOf result Status.WriteFault) → (S.state shelf.new).put_faults ≡ (S.state shelf.old).put_faults }
 {
-    put_out(shelf, asked.certificate, &plan.certificate)?;
-    put_map(shelf, asked.out, &plan.map)
+    put_out(shelf, order.certificate, &plan.certificate)?;
+    put_map(shelf, order.out, &plan.map)
 }
 
 // Stores what is due, and then says the report.
-fn carry_out<S: Shelf>(shelf: &mut S, asked: &Asked, plan: &Plan) -> Status
+#[tactic(auto, using(crate::proofs::StateLemmas::stores_then_says, crate::proofs::StateLemmas::only_stores_puts, crate::proofs::StateLemmas::all_then_line))]
+fn carry_out<S: Shelf>(shelf: &mut S, order: &Order, plan: &Plan) -> Status
     ensures status { MayEndAs (status_of plan.now.kind) result }
-    ensures stored { result ≡ status_of plan.now.kind → S.files shelf.new ≡ all_stored (S.files shelf.old) (due asked.now plan.now) }
-    ensures heard { result ≡ status_of plan.now.kind → S.said shelf.new ≡ spoken (S.said shelf.old) plan.now.report.items }
-    ensures partly_heard { (S.said shelf.new ≡ S.said shelf.old) ⊎ IsPartlySpoken (S.said shelf.old) (S.said shelf.new) plan.now.report.items }
-    ensures partly { IsPartlyPut (S.files shelf.old) (S.files shelf.new) (due asked.now plan.now) }
-    ensures fetches { S.fetch_faults shelf.new ≡ S.fetch_faults shelf.old }
-    ensures missed { S.missed shelf.new ≡ S.missed shelf.old }
-    ensures cause { result ≡ Status.WriteFault → Rose (S.put_faults shelf.old) (S.put_faults shelf.new) }
+    ensures whole { result ≡ status_of plan.now.kind → S.state shelf.new ≡ with_all (S.state shelf.old) (due_of order.now plan.now) plan.now.report.items }
+    ensures partly { IsPartlyPut (S.state shelf.old).files (S.state shelf.new).files (due_of order.now plan.now) }
+    ensures heard { ((S.state shelf.new).said ≡ (S.state shelf.old).said)
+        ⊎ ((S.state shelf.new).files ≡ all_stored (S.state shelf.old).files (due_of order.now plan.now)) × IsPartlySpoken (S.state shelf.old).said (S.state shelf.new).said plan.now.report.items }
+    ensures frame { OnlyPuts (S.state shelf.old) (S.state shelf.new) }
+    ensures cause { result ≡ Status.WriteFault → HasRisen (S.state shelf.old).put_faults (S.state shelf.new).put_faults }
+    ensures quiet { result ≢ Status.WriteFault → (S.state shelf.new).put_faults ≡ (S.state shelf.old).put_faults }
 {
-    if let Err(status) = put_all(shelf, asked, plan) {
+    if let Err(status) = put_all(shelf, order, plan) {
         return status;
     }
     say_report(shelf, plan)
@@ -133,39 +134,55 @@ fn carry_out<S: Shelf>(shelf: &mut S, asked: &Asked, plan: &Plan) -> Status
 /// - `Refused` comes exactly where one of the steps refuses a file, with the line that says which and why.
 /// - `Done`, `Within` and `Hopeless` come where all is stored and said, as the bound is the cost, is below it, or no grouping is feasible.
 /// - `ReadFault` comes only where a fetch failed, with the line that says of which file, and `WriteFault` only where a store or a say did.
-/// - `Memory` comes where memory is wanting, at any point.
+/// - `Memory` comes where memory runs out, at any point.
 pub fn run<S: Shelf, W: Crew>(alloc: Global, words: &Words, shelf: &mut S, crew: &W) -> Status
-    // The words are in no form, exactly.
-    ensures usage { result ≡ Status.Usage → ((r : Request) → ¬ Spells words.now r) × (S.said shelf.new ≡ spoken (S.said shelf.old) usage_line) }
+    // Done and Within: CERT and OUT are stored and the report is said, and these state an answer of which all this holds.
+    ensures feasible { HasGrouping result → PutsOut (S.state shelf.old) (S.state shelf.new) words.now (λ a. IsFeasible a.problem a.outcome.grouping) }
+    ensures cost { HasGrouping result → PutsOut (S.state shelf.old) (S.state shelf.new) words.now (λ a. a.outcome.cost ≡ Some (cost a.problem a.outcome.grouping)) }
+    ensures bound { HasGrouping result → PutsOut (S.state shelf.old) (S.state shelf.new) words.now (λ a.
+        (b : ℤ) × (a.outcome.bound ≡ Some b) × ((g : Grouping) → IsFeasible a.problem g → b ≤ℤ cost a.problem g)) }
+    ensures optimal { result ≡ Status.Done → PutsOut (S.state shelf.old) (S.state shelf.new) words.now (λ a. a.outcome.bound ≡ a.outcome.cost) }
+    ensures within { result ≡ Status.Within → PutsOut (S.state shelf.old) (S.state shelf.new) words.now (λ a.
+        (b c : ℤ) × (a.outcome.bound ≡ Some b) × (a.outcome.cost ≡ Some c) × (b <ℤ c)) }
+    ensures union { HasGrouping result → PutsOut (S.state shelf.old) (S.state shelf.new) words.now (λ a.
+        (text : List ℕ) × (a.outcome.map ≡ Some text) × IsDrawnMap (odds_of a.checked.areas) a.outcome.grouping a.classes.names a.checked.frame text) }
+
+    // Hopeless: CERT is stored and the report is said, where no grouping is feasible.
+    ensures none { result ≡ Status.Hopeless → PutsOut (S.state shelf.old) (S.state shelf.new) words.now (λ a. (g : Grouping) → ¬ IsFeasible a.problem g) }
+
+    // All of this holds of one answer, and each told pair of files that is accepted gets one.
+    ensures stated { (kind : Kind) → result ≡ status_of kind → PutsOut (S.state shelf.old) (S.state shelf.new) words.now (λ a.
+        (a.outcome.kind ≡ kind) × AnswersProblem a.checked a.classes a.problem a.outcome) }
+    ensures answering { (p : Problem) → AcceptsTold (S.state shelf.old).files words.now p → (kind : Kind) × MayFailAs (status_of kind) result }
+    ensures hopeless { (p : Problem) → AcceptsTold (S.state shelf.old).files words.now p → ((g : Grouping) → ¬ IsFeasible p g) → MayFailAs Status.Hopeless result }
+
+    // Usage: the words are in no form, exactly. Then only the usage is said, so nothing is fetched.
+    ensures usage { result ≡ Status.Usage → ((r : Request) → ¬ Spells words.now r) × (S.state shelf.new ≡ with_line (S.state shelf.old) usage_line) }
     ensures unspelled { ((r : Request) → ¬ Spells words.now r) → MayEndAs Status.Usage result }
+    ensures unfetched { ((r : Request) → ¬ Spells words.now r) → OnlySays (S.state shelf.old) (S.state shelf.new) }
 
-    // The first step that refuses, exactly, with its line.
-    ensures refused { result ≡ Status.Refused → IsRefusal (S.files shelf.old) (S.said shelf.old) (S.said shelf.new) words.now }
-    ensures refusing { (line : List ℕ) → AreRefused (S.files shelf.old) words.now line → MayFailAs Status.Refused result }
+    // Refused: a step refuses, exactly, and only the line of the first that does is said.
+    ensures refused { result ≡ Status.Refused → SaysRefusal (S.state shelf.old) (S.state shelf.new) words.now }
+    ensures refusing { (line : List ℕ) → RefusesTold (S.state shelf.old).files words.now line → MayFailAs Status.Refused result }
 
-    // A fetch, a store or a say failed.
-    ensures read_fault { result ≡ Status.ReadFault → IsReadFault (S.files shelf.old) (S.said shelf.old) (S.said shelf.new) words.now (S.fetch_faults shelf.old) (S.fetch_faults shelf.new) (S.missed shelf.new) }
-    ensures write_fault { result ≡ Status.WriteFault → Rose (S.put_faults shelf.old) (S.put_faults shelf.new) }
+    // A fetch failed, or a store or a say did.
+    ensures read_fault { result ≡ Status.ReadFault → SaysReadFault (S.state shelf.old) (S.state shelf.new) words.now }
+    ensures write_fault { result ≡ Status.WriteFault → HasRisen (S.state shelf.old).put_faults (S.state shelf.new).put_faults }
+    ensures quiet { result ≢ Status.WriteFault → (S.state shelf.new).put_faults ≡ (S.state shelf.old).put_faults }
 
-    // The certificate states a feasible grouping, its cost and a bound of every feasible grouping's cost, or that none is feasible.
-    ensures kept { (kind : Kind) → result ≡ status_of kind → IsKept (S.files shelf.old) (S.files shelf.new) (S.said shelf.old) (S.said shelf.new) words.now kind }
-    ensures answering { (p : Setting) → IsProblemOf (S.files shelf.old) words.now p → (kind : Kind) × MayFailAs (status_of kind) result }
-    ensures hopeless { (p : Setting) → IsProblemOf (S.files shelf.old) words.now p → ((g : Groups) → ¬ IsFeasible p g) → MayFailAs Status.Hopeless result }
-
-    // Nothing else changes.
-    ensures unchanged { (result ≡ Status.Usage) ⊎ (result ≡ Status.Refused) ⊎ (result ≡ Status.ReadFault) → S.files shelf.new ≡ S.files shelf.old }
-    ensures partly { IsPartlyKept (S.files shelf.old) (S.files shelf.new) words.now }
-    ensures heard { IsHeard (S.files shelf.old) (S.said shelf.old) (S.said shelf.new) words.now (S.fetch_faults shelf.old) (S.fetch_faults shelf.new) (S.missed shelf.new) }
+    // Whatever comes: only due texts are stored, and only a due line is said, the report after all is stored.
+    ensures partly { KeepsPartly (S.state shelf.old).files (S.state shelf.new).files words.now }
+    ensures heard { IsHeard (S.state shelf.old) (S.state shelf.new) words.now }
 {
-    let Ok(asked) = read_words(alloc, words) else {
+    let Ok(order) = read_words(alloc, words) else {
         return Status::Memory;
     };
-    let Some(asked) = asked else {
+    let Some(order) = order else {
         return tell(shelf, &Stop::Usage);
     };
-    match decide(alloc, shelf, &asked, crew) {
-        Ok(plan) => carry_out(shelf, &asked, &plan),
-        Err(Halt::Stopped(stop)) => tell(shelf, &stop),
-        Err(Halt::Memory) => Status::Memory,
+    match decide(alloc, shelf, &order, crew) {
+        Ok(plan) => carry_out(shelf, &order, &plan),
+        Err(NoPlan::Stopped(stop)) => tell(shelf, &stop),
+        Err(NoPlan::Memory) => Status::Memory,
     }
 }

@@ -1,15 +1,15 @@
 // The words of the command line.
 ghost use Rattle.std.specs.Prelude.{◌≡◌, ◌≤◌, ◌↔◌, List, ℕ, ◌∷◌, [], codes, Some, IsTrue, IfOk, IfSome, IfNone};
-ghost use Rattle.generalise_core.specs.Words.{Request, Differ, IsNothing, Spells};
-ghost use Rattle.generalise_core.specs.Asked.{request};
+ghost use Rattle.generalise_core.specs.Words.{Request, AreDifferent, IsNothing, Spells};
+ghost use Rattle.generalise_core.specs.Orders.{request};
 
-use crate::draft::read_said;
+use crate::draft::read_draft;
 use agg_base::{NoMemory, Words};
 use std::alloc::Global;
 
 /// The files that the words name.
 #[derive(Drop)]
-pub struct Asked<'a> {
+pub(crate) struct Order<'a> {
     pub map: &'a str,
     pub table: &'a str,
     pub out: &'a str,
@@ -17,8 +17,8 @@ pub struct Asked<'a> {
 }
 
 /// Whether no two of the names are equal.
-pub(crate) fn differ(first: &str, second: &str, third: &str, fourth: &str) -> bool
-    ensures { IsTrue result ↔ Differ first.now second.now third.now fourth.now }
+pub(crate) fn are_different(first: &str, second: &str, third: &str, fourth: &str) -> bool
+    ensures { IsTrue result ↔ AreDifferent first.now second.now third.now fourth.now }
 {
     first != second
         && first != third
@@ -37,15 +37,15 @@ pub(crate) fn is_nothing(value: &str) -> bool
 }
 
 /// What the words ask for. The command stands first, and the option anywhere behind it; its value has one to seven digits.
-pub fn read_words(alloc: Global, words: &Words) -> Result<Option<Asked<'_>>, NoMemory>
+pub(crate) fn read_words(alloc: Global, words: &Words) -> Result<Option<Order<'_>>, NoMemory>
     ensures found { IfOk result (λ r. IfSome r (λ a. Spells words.now (request a))) }
     ensures none { IfOk result (λ r. IfNone r ((r : Request) → ¬ (Spells words.now r))) }
 {
     if words.count() == 0 || words.word(0) != "generalise" {
         return Ok(None);
     }
-    let Some(said) = read_said(alloc, words)? else {
+    let Some(draft) = read_draft(alloc, words)? else {
         return Ok(None);
     };
-    Ok(said.asked())
+    Ok(draft.order())
 }

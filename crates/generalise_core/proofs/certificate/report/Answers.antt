@@ -1,6 +1,6 @@
 use Rattle.std.proofs.Common.{◌≡◌, ◌++◌, ◌∷◌, [], codes, length, ◌∙◌, ap}
 use Rattle.std.specs.Fmt.{decimal}
-use Rattle.agg_base.specs.Texts.{ended}
+use Rattle.agg_base.specs.Texts.{text_of_lines}
 use Rattle.generalise_core.specs.Certificates.{report, kind_word, number_or_dash}
 use Rattle.generalise_core.proofs.Endings.{next_line}
 use Rattle.generalise_core.proofs.certificate.report.Goals as goal
@@ -19,10 +19,10 @@ returns c =
     let cost = codes "cost " ++ number_or_dash i.cost in
     let bound = codes "bound " ++ number_or_dash i.bound in
     let splits = codes "splits 0" in
-    let first : c.push_line.new.out.items ≡ [] ++ ended status = rw (c.in_ok-push_line.ensures, c.word_of.ensures, c.new-out.ensures.items) in
+    let first : c.push_line.new.out.items ≡ [] ++ text_of_lines status = rw (c.in_ok-push_line.ensures, c.word_of.ensures, c.new-out.ensures.items) in
     let second = next_line [] _ _ status areas first c.in_ok-push_count.ensures in
     let third = next_line [] _ _ (status ++ areas ∷ []) passed second c.in_ok-push_count-2.ensures in
-    let fourth = next_line [] _ _ (status ++ areas ∷ [] ++ passed ∷ []) many third (c.in_ok-push_count-3.ensures ∙ ap (λ n. c.push_count-2.new.out.items ++ ended ((codes "regions " ++ decimal n) ∷ [])) counted) in
+    let fourth = next_line [] _ _ (status ++ areas ∷ [] ++ passed ∷ []) many third (c.in_ok-push_count-3.ensures ∙ ap (λ n. c.push_count-2.new.out.items ++ text_of_lines ((codes "regions " ++ decimal n) ∷ [])) counted) in
     let fifth = next_line [] _ _ (status ++ areas ∷ [] ++ passed ∷ [] ++ many ∷ []) cost fourth c.in_ok-push_number_or_dash.ensures in
     let sixth = next_line [] _ _ (status ++ areas ∷ [] ++ passed ∷ [] ++ many ∷ [] ++ cost ∷ []) bound fifth c.in_ok-push_number_or_dash-2.ensures in
     rw (← view) (next_line [] _ _ (status ++ areas ∷ [] ++ passed ∷ [] ++ many ∷ [] ++ cost ∷ [] ++ bound ∷ []) splits sixth c.in_ok-push_line-2.ensures)

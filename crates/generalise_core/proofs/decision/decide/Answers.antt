@@ -1,12 +1,14 @@
-use Rattle.std.proofs.Common.{refl}
-use Rattle.generalise_core.specs.Asked.{request}
-use Rattle.generalise_core.proofs.Decisions.{decided, fetched}
+use Rattle.std.proofs.Common.{refl, ◌∙◌}
+use Rattle.generalise_core.specs.Orders.{request}
+use Rattle.generalise_core.proofs.Decisions.{files_planned, text_fetched}
 use Rattle.generalise_core.proofs.decision.decide.Goals as goal
 
-pub returns-clause-decided : goal.returns-clause-decided
-returns-clause-decided g c =
-    let r = request c.args.asked.now in
-    decided _ r _ _ _ c.deref.result.now c.deref-2.result.now c.make_plan.result
-    (fetched _ _ r.map _ _ _ refl c.deref.ensures.value c.in-Ok.ensures.bound c.in-Ok.ensures.bytes)
-    (fetched _ _ r.table _ _ _ c.fetch.ensures.files c.deref-2.ensures.value c.in-Ok-fetch.ensures.bound c.in-Ok-fetch.ensures.bytes)
+pub returns : goal.returns
+returns g c =
+    let r = request c.args.order.now in
+    let old = g.S.Shelf.state c.args.shelf.now in
+    files_planned old _ r c.deref.result.now c.deref-2.result.now c.make_plan.result
+    (text_fetched old old r.map _ _ _ refl c.deref.ensures.value c.in-Ok.ensures.bound c.in-Ok.ensures.bytes)
+    (text_fetched old (g.S.Shelf.state c.fetch.new.self) r.table _ _ _ c.in-Ok.ensures.state c.deref-2.ensures.value c.in-Ok-fetch.ensures.bound c.in-Ok-fetch.ensures.bytes)
+    (c.in-Ok-fetch.ensures.state ∙ c.in-Ok.ensures.state)
     c.make_plan.ensures

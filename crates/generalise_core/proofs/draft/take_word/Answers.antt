@@ -1,8 +1,8 @@
 use Rattle.std.proofs.Common.{rules, tests, arith, ◌≡◌, ◌+◌, length}
 use Rattle.std.proofs.lemmas.Option.{slice_get_within}
-use Rattle.generalise_core.proofs.SaidLemmas.{taken_operand, taken_option, not_taken}
+use Rattle.generalise_core.proofs.DraftLemmas.{taken_operand, taken_option, not_taken}
 use Rattle.generalise_core.proofs.draft.take_word.Goals as goal
-use Rattle.generalise_core.proofs.draft.take_word.Goals.{then-ne-via-then-ne, then-ne-via-else-ne+then-not-lacks_splits, then-ne-via-else-ne+else-not-lacks_splits+then-at-count}
+use Rattle.generalise_core.proofs.draft.take_word.Goals.{then-ne-via-then-ne, then-ne-via-else-ne+then-not-is_without_splits, then-ne-via-else-ne+else-not-is_without_splits+then-at-count}
 
 pub returns-then-is_name-clause-taken : goal.returns-then-is_name-clause-taken
 returns-then-is_name-clause-taken c =
@@ -11,8 +11,8 @@ returns-then-is_name-clause-taken c =
 pub returns-then-ne-clause-none : goal.returns-then-ne-clause-none
 returns-then-ne-clause-none c = elim c.then-ne.branch [
   | then-ne-via-then-ne w ↦ not_taken _ c.args.words.now c.args.at c.word-word.result.now c.word-word.ensures (search rules) (λ value next all. search rules)
-  | then-ne-via-else-ne+then-not-lacks_splits w ↦ not_taken _ c.args.words.now c.args.at c.word-word.result.now c.word-word.ensures (search rules) (λ value next all. search rules)
-  | then-ne-via-else-ne+else-not-lacks_splits+then-at-count w ↦ not_taken _ c.args.words.now c.args.at c.word-word.result.now c.word-word.ensures (search rules) (λ value next all.
+  | then-ne-via-else-ne+then-not-is_without_splits w ↦ not_taken _ c.args.words.now c.args.at c.word-word.result.now c.word-word.ensures (search rules) (λ value next all. search rules)
+  | then-ne-via-else-ne+else-not-is_without_splits+then-at-count w ↦ not_taken _ c.args.words.now c.args.at c.word-word.result.now c.word-word.ensures (search rules) (λ value next all.
       let within = slice_get_within c.args.words.now (c.args.at + 1) value next in
       let last : c.args.at + 1 ≡ c.count-count.result = search (rules, tests) in
       let all_words : c.count-count.result ≡ length c.args.words.now = search rules in

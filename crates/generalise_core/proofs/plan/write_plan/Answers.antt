@@ -1,6 +1,6 @@
 use Rattle.std.proofs.Common.{rules, refl, sym, ◌∙◌}
 use Rattle.generalise_core.proofs.Plannings.{same_certificate, same_report}
-use Rattle.generalise_core.proofs.plan.written.Goals as goal
+use Rattle.generalise_core.proofs.plan.write_plan.Goals as goal
 
 pub returns : goal.returns
 returns c = record {

@@ -1,8 +1,6 @@
-use Rattle.std.proofs.Common.{rules, tests, arith, ◌≡◌, ◌∷◌, [], length, get_or, option_map, Some, codes, sym, ◌∙◌, ap}
-use Rattle.generalise_core.specs.Words.{Said}
-use Rattle.generalise_core.specs.Texts.{texts}
-use Rattle.generalise_core.proofs.SaidLemmas.{said_from, said_of}
-use Rattle.generalise_core.proofs.draft.Draft.asked.Goals as goal
+use Rattle.std.proofs.Common.{rules, tests, arith, ◌≡◌, [], length, get_or, Some, codes, ◌∙◌, ap}
+use Rattle.generalise_core.proofs.DraftLemmas.{said_from, said_of}
+use Rattle.generalise_core.proofs.draft.Draft.order.Goals as goal
 
 pub returns-clause-found : goal.returns-clause-found
 returns-clause-found c =
@@ -13,7 +11,7 @@ returns-clause-found c =
     let format : (get_or items 0 (record { ref_ptr = (0, 0); now = [] })).now ≡ codes "grid" = search (rules, tests) in
     record {
       splits = c.in_ok-splits.splits.now;
-      said_is = said_of _ _ _ c.in_ok-splits.splits c.args.self.now (ap (λ xs. said_from xs c.self.inside.splits) same ∙ c.self.view_is) long splits format;
+      draft_is = said_of _ _ _ c.in_ok-splits.splits c.args.self.now (ap (λ xs. said_from xs c.self.inside.splits) same ∙ c.self.view_is) long splits format;
       no_splits = search rules;
       differ = search rules;
     }

@@ -1,7 +1,6 @@
-use Rattle.std.proofs.Common.{rules, arith, ◌≡◌, ◌<◌, ◌≤◌, length, drop, [], refl}
+use Rattle.std.proofs.Common.{rules, arith, ◌≡◌, ◌≤◌, length, refl}
 use Rattle.std.proofs.lemmas.List.{drop_all}
-use Rattle.generalise_core.specs.Words.{Says}
-use Rattle.generalise_core.proofs.draft.read_said.Goals as goal
+use Rattle.generalise_core.proofs.draft.read_draft.Goals as goal
 
 pub loop-at-init : goal.loop-at-init
 loop-at-init c = record { within = omega arith; same = λ all. rw c.start-draft.ensures ((λ says. says), (λ says. says)) }
