@@ -37,17 +37,9 @@ fn accessors_and_copies(rt: HostRuntime) -> Result<(), Fail> {
         problem.links(),
         [link(0, 1, 256), link(1, 2, 256)].as_slice()
     );
-    assert_eq!(rt; problem.link_count(), 2);
     assert_eq!(rt; problem.border(), 1);
-    assert!(rt; problem.areas() == 3 && problem.classes() == 2 && problem.link_count() == 2);
-    assert_eq!(rt; problem.own(1), 1);
-    assert_eq!(rt; problem.weight(2), 2);
-    assert_eq!(rt; problem.link(1), link(1, 2, 256));
-    assert_eq!(rt; problem.distance(1, 0), 5);
-    assert_eq!(rt; problem.distance(1, 1), 0);
-    assert_eq!(rt; problem.threshold(1), 4);
     crosses_threads(&problem);
-    crosses_threads(&problem.link(0));
+    crosses_threads(&link(0, 1, 256));
     Ok(())
 }
 
