@@ -29,3 +29,15 @@ pub const CELLS: usize = 524_288;
 
 /// The most classes of a table.
 pub const CLASSES: usize = 64;
+
+/// The greatest depth of a node of a tree. The root's depth is 0.
+pub const DEPTH: u64 = 1_024;
+
+/// The most splits of a tree.
+pub const SPLITS: u64 = 1_000_000;
+
+/// The most marks of a certificate: 8 for each row, and one more for each member of its set.
+pub const MARKS: u64 = 40_000_000;
+
+/// The greatest denominator of a sum of rows.
+pub const DENOMINATOR: u32 = 4_096;

@@ -14,7 +14,7 @@ path_along : (p : Problem) (u v w : ℕ) (n m : ℕ) → Path p v u n → Path p
 path_along p u v w zero m h k = subst (λ (x : ℕ). Path p w x (0 + m)) (sym h) (rw zero-add k)
 path_along p u v w (suc n) m h k = rw suc-add (h.0, h.1, path_along p h.0 v w n m h.2 k)
 
-linked_back : (p : Problem) (u v : ℕ) → AreLinked p u v → AreLinked p v u
+pub linked_back : (p : Problem) (u v : ℕ) → AreLinked p u v → AreLinked p v u
 linked_back p u v h = (h.0, h.1, elim h.2 [ inl e ↦ inr e | inr e ↦ inl e ])
 
 path_back : (p : Problem) (u v : ℕ) (n : ℕ) → Path p v u n → Path p u v n

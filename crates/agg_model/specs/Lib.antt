@@ -1,3 +1,5 @@
 pub mod Problem
 pub mod Parts
 pub mod Rules
+pub mod Lacks
+pub mod Tops

@@ -22,8 +22,8 @@ impl Model for Grouping {
     ghost view = { λ g. record { region_of = g.region_of.items; class_of = g.class_of.items } };
 }
 
-ghost use Rattle.std.specs.Prelude.{◌≡◌, ◌↔◌, ◌<◌, IsTrue, IfOk, EachIndex, length, slice_index};
-ghost use Rattle.agg_model.specs.Problem.{IsNumbered, region, class_at};
+ghost use Rattle.std.specs.Prelude.{◌≡◌, ◌↔◌, ◌<◌, ◌≤◌, IsTrue, IfOk, EachIndex, length, slice_index};
+ghost use Rattle.agg_model.specs.Problem.{IsNumbered, region, class_in, class_at};
 
 impl Grouping {
     /// The same grouping again. Its one refusal is want of memory.
@@ -44,13 +44,29 @@ impl Grouping {
         self.region_of[area as usize]
     }
 
+    /// How many regions there are.
+    pub fn regions(&self) -> u32
+        requires { length self.now.class_of ≤ AREAS }
+        ensures { result ≡ length self.now.class_of }
+    {
+        self.class_of.len() as u32
+    }
+
+    /// The class of a region.
+    pub fn class(&self, region: u32) -> u8
+        requires { region < length self.now.class_of }
+        ensures { result ≡ class_in self.now region }
+    {
+        self.class_of[region as usize]
+    }
+
     /// The class of the region of an area.
     pub fn class_at(&self, area: u32) -> u8
         requires area { area < length self.now.region_of }
         requires region { region self.now area < length self.now.class_of }
         ensures { result ≡ class_at self.now area }
     {
-        self.class_of[self.region(area) as usize]
+        self.class(self.region(area))
     }
 }
 

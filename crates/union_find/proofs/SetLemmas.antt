@@ -6,7 +6,7 @@ use Rattle.std.proofs.lemmas.List.{length-map, get_or-map}
 use Rattle.std.proofs.lemmas.List.FromFn.{length-range_with_len}
 use Rattle.union_find.specs.Sets.{IsPaired, Walk, InOneSet, AreSets, SetsLaw}
 use Rattle.union_find.specs.Steps.{merge, LeadsDown, IsForest, top_at, tops}
-use Rattle.union_find.proofs.StepLemmas.{merge_tells, merge_both, merge_at_most, of_either, alone}
+use Rattle.union_find.proofs.StepLemmas.{merge_tells, merge_both, merge_at_most, of_either, alone, apart_forest}
 use Rattle.union_find.proofs.TopLemmas.{length-tops, tops_at, tops_are}
 
 -- ---- one more pair
@@ -197,6 +197,20 @@ sets_alone n = record {
     at : (v : ℕ) → v < length (tops (range_with_len 0 n)) → slice_index (tops (range_with_len 0 n)) v ≡ v
     at v h = tops_are (range_with_len 0 n) (λ v. v) (alone n) v (subst (λ (m : ℕ). v < m) (length-tops (range_with_len 0 n)) h)
 
+-- members that lead to themselves are joined by no pair
+pub sets_apart : (f : List ℕ) → ((v : ℕ) → v < length f → slice_index f v ≡ v) → AreSets [] (tops f)
+sets_apart f apart = record {
+  joined = λ v h. set_itself [] v _ (sym (at v h));
+  least = λ u v h way. (let e = at v h in let s = walk_of_none u v way.0 way.1 in omega arith);
+}
+  where
+    at : (v : ℕ) → v < length (tops f) → slice_index (tops f) v ≡ v
+    at v h = tops_are f (λ v. v) (apart_forest f apart) v (subst (λ (m : ℕ). v < m) (length-tops f) h)
+
+-- where no pair joins, each member is the least of its set
+pub least_alone : (heads : List ℕ) → AreSets [] heads → (v : ℕ) → v < length heads → slice_index heads v ≡ v
+least_alone heads sets v h = (let way = sets.joined v h in sym (walk_of_none (slice_index heads v) v way.0 way.1))
+
 -- any pairs of members join some sets
 pub some_sets : (n : ℕ) (pairs : List (ℕ × ℕ)) → ((i j : ℕ) → Contains pairs (i, j) → (i < n) × (j < n)) → (heads : List ℕ) × (length heads ≡ n) × AreSets pairs heads
 some_sets n [] inside = (tops (range_with_len 0 n), length-tops (range_with_len 0 n) ∙ length-range_with_len 0 n, sets_alone n)
@@ -212,10 +226,15 @@ some_sets n ((a, b) ∷ pairs) inside =
       sets_merged pairs old new a b before.2 (omega arith) (omega arith) long (λ v h. get_or-map (merge (slice_index old a) (slice_index old b)) old v 0 0 h),
     )
 
+-- the labels of a list whose labels were merged
+pub tops_merged : (old new : List ℕ) (a b : ℕ) → length new ≡ length old → a < length old → b < length old
+    → IsForest (λ v. merge (top_at old a) (top_at old b) (top_at old v)) new → (v : ℕ) → v < length (tops old) → slice_index (tops new) v ≡ merge (slice_index (tops old) a) (slice_index (tops old) b) (slice_index (tops old) v)
+tops_merged old new a b long ha hb forest v h =
+    let k : v < length old = subst (λ (m : ℕ). v < m) (length-tops old) h in
+    rw (tops_at old a ha, tops_at old b hb, tops_at old v k) (tops_are new (λ v. merge (top_at old a) (top_at old b) (top_at old v)) forest v (omega arith))
+
 -- the sets of a list whose labels were merged
 pub sets_joined : (pairs : List (ℕ × ℕ)) (old new : List ℕ) (a b : ℕ) → LeadsDown old → length new ≡ length old → a < length old → b < length old
     → IsForest (λ v. merge (top_at old a) (top_at old b) (top_at old v)) new → AreSets pairs (tops old) → AreSets ((a, b) ∷ pairs) (tops new)
 sets_joined pairs old new a b down long ha hb forest sets =
-    sets_merged pairs (tops old) (tops new) a b sets (rw (length-tops old) ha) (rw (length-tops old) hb) (length-tops new ∙ (long ∙ sym (length-tops old))) (λ v h.
-    let k : v < length old = subst (λ (m : ℕ). v < m) (length-tops old) h in
-    rw (tops_at old a ha, tops_at old b hb, tops_at old v k) (tops_are new (λ v. merge (top_at old a) (top_at old b) (top_at old v)) forest v (omega arith)))
+    sets_merged pairs (tops old) (tops new) a b sets (rw (length-tops old) ha) (rw (length-tops old) hb) (length-tops new ∙ (long ∙ sym (length-tops old))) (tops_merged old new a b long ha hb forest)

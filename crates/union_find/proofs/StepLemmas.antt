@@ -154,6 +154,14 @@ alone n = record {
   top = λ v h e. refl;
 }
 
+-- members that lead to themselves
+pub apart_forest : (f : List ℕ) → ((v : ℕ) → v < length f → slice_index f v ≡ v) → IsForest (λ v. v) f
+apart_forest f apart = record {
+  down = λ v h. (let e = apart v h in omega arith);
+  same = λ v h. apart v h;
+  top = λ v h e. refl;
+}
+
 -- a list that was written over as a whole
 pub written_over : (n : ℕ) (xs ys : List ℕ) → length xs ≡ n → take n (xs ++ ys) ≡ xs
 written_over n xs ys e = subst (λ (m : ℕ). take m (xs ++ ys) ≡ xs) e (take-append_seam xs ys)

@@ -59,3 +59,12 @@ is_tops f new down long at =
     same_lists new (tops f) (long ∙ sym (length-tops f)) (λ v d h.
     let inside : v < length f = omega arith in
     get_or_default new v d 0 h ∙ (at v inside ∙ (sym (tops_at f v inside) ∙ sym (get_or_default (tops f) v d 0 (subst (λ (n : ℕ). v < n) (sym (length-tops f)) inside)))))
+
+-- a list with the same labels has the same ends
+pub tops_stay : (f new : List ℕ) → LeadsDown f → length new ≡ length f → IsForest (top_at f) new → tops new ≡ tops f
+tops_stay f new down long forest =
+    same_lists (tops new) (tops f) (length-tops new ∙ (long ∙ sym (length-tops f))) (λ v d h.
+    let inside : v < length new = subst (λ (n : ℕ). v < n) (length-tops new) h in
+    let within : v < length f = omega arith in
+    get_or_default (tops new) v d 0 h
+    ∙ (tops_are new (top_at f) forest v inside ∙ (sym (tops_at f v within) ∙ sym (get_or_default (tops f) v d 0 (subst (λ (n : ℕ). v < n) (sym (length-tops f)) within)))))

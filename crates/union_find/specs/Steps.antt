@@ -1,5 +1,5 @@
 -- Lists that lead each member down, step by step, to the label of its set.
-use Rattle.std.specs.Prelude.{◌≡◌, ℕ, zero, suc, ◌≤◌, ◌==◌, min, max, if◌then◌else◌, List, map, EachIndex, length, slice_index}
+use Rattle.std.specs.Prelude.{◌≡◌, ℕ, zero, suc, ◌≤◌, ◌^◌, ◌==◌, min, max, if◌then◌else◌, List, map, EachIndex, length, slice_index}
 use Rattle.std.specs.List.{range_with_len}
 
 -- the number x, where the numbers a and b become the lesser of them
@@ -9,6 +9,11 @@ merge a b x = (if x == max a b then min a b else x)
 -- no step leads up
 abbrev pub LeadsDown : List ℕ → Type 0
 LeadsDown above = EachIndex above (λ v. slice_index above v ≤ v)
+
+-- the steps of members of 32 bits, of which none leads up
+pub record AreSteps (above : List ℕ) : Type 0 where
+  pub down : LeadsDown above
+  pub few : length above ≤ 2 ^ 32
 
 -- each step stays in the set, and a member that leads to itself is the label of its set
 pub record IsForest (label_of : ℕ → ℕ) (above : List ℕ) : Type 0 where

@@ -1,5 +1,5 @@
 // Lists that lead each member down to the least of its set, step by step.
-ghost use Rattle.std.specs.Prelude.{ℕ, ◌≡◌, ◌<◌, IfOk, EachIndex, length, slice_index};
+ghost use Rattle.std.specs.Prelude.{ℕ, ◌≡◌, ◌<◌, ◌≤◌, ◌^◌, IfOk, EachIndex, length, slice_index};
 ghost use Rattle.std.specs.List.{range_with_len};
 ghost use Rattle.union_find.specs.Steps.{merge, LeadsDown, IsForest};
 
@@ -17,8 +17,19 @@ pub(crate) fn singles(alloc: Global, members: u32) -> Result<Vec<u32>, NoMemory>
     Ok(above)
 }
 
+// Leads each member to itself.
+pub(crate) fn stand_alone(above: &mut [u32])
+    requires { length above.old ≤ 2 ^ 32 }
+    ensures length { length above.new ≡ length above.old }
+    ensures alone { EachIndex above.old (λ v. slice_index above.new v ≡ v) }
+{
+    for member in 0..above.len() {
+        above[member] = member as u32;
+    }
+}
+
 // The member at which the steps from a member end. It halves the way there.
-fn top_of(above: &mut [u32], member: u32) -> u32
+pub(crate) fn top_of(above: &mut [u32], member: u32) -> u32
     requires down { LeadsDown above.old }
     requires member { member < length above.old }
     ensures length { length above.new ≡ length above.old }

@@ -14,6 +14,29 @@ fn least_members(rt: &impl Abort, alloc: Global, pairs: &[(u32, u32)]) -> Result
 }
 
 #[test]
+fn least_members_and_sets_apart(rt: HostRuntime) -> Result<(), Fail> {
+    let alloc = rt.alloc();
+    let mut forest = Forest::over(vec![in alloc; 9, 9, 0, 7, 1]?);
+    for _ in 0..2 {
+        for member in 0..5 {
+            assert_eq!(rt; forest.least(member), member);
+        }
+        forest.join(4, 3);
+        forest.join(1, 2);
+        forest.join(2, 4);
+        for member in 0..5 {
+            assert_eq!(rt; forest.least(member), member.min(1));
+        }
+        forest.reset();
+    }
+    assert_eq!(rt;
+        forest.least_members().as_slice(),
+        [0, 1, 2, 3, 4].as_slice()
+    );
+    Ok(())
+}
+
+#[test]
 fn sets_of_seven_members(rt: HostRuntime) -> Result<(), Fail> {
     let alloc = rt.alloc();
     for (pairs, want) in [

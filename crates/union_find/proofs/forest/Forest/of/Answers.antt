@@ -1,4 +1,4 @@
-use Rattle.std.proofs.Common.{◌≡◌, ℕ, List, [], length, sym, ◌∙◌, subst}
+use Rattle.std.proofs.Common.{◌≡◌, ℕ, List, [], length, ap, sym, ◌∙◌, subst, arith}
 use Rattle.std.proofs.lemmas.List.FromFn.{length-range_with_len}
 use Rattle.union_find.specs.Sets.{AreSets}
 use Rattle.union_find.specs.Steps.{LeadsDown, tops}
@@ -8,7 +8,10 @@ use Rattle.union_find.proofs.SetLemmas.{sets_alone}
 use Rattle.union_find.proofs.forest.Forest.of.Goals as goal
 
 pub invariant_of-result : goal.invariant_of-result
-invariant_of-result c = subst LeadsDown (sym c.in_ok-singles.ensures) (alone_down c.args.members)
+invariant_of-result c = record {
+  down = subst LeadsDown (sym c.in_ok-singles.ensures) (alone_down c.args.members);
+  few = (let long = ap length c.in_ok-singles.ensures ∙ length-range_with_len 0 c.args.members in omega arith);
+}
 
 pub returns-clause-members : goal.returns-clause-members
 returns-clause-members c =
