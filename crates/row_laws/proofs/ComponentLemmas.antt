@@ -1,5 +1,5 @@
 -- A link that passes the test joins two areas of one label.
-use Rattle.std.proofs.Common.{◌≡◌, ℕ, zero, suc, ◌<◌, ◌≢◌, Bool, true, false, refl, ap, sym, ◌∙◌, arith, subst, min, max}
+use Rattle.std.proofs.Common.{◌≡◌, ℕ, zero, suc, ◌<◌, ◌≢◌, Bool, true, refl, ap, sym, ◌∙◌, arith, subst, max}
 use Rattle.std.specs.Prelude.{◌==◌}
 use Rattle.std.proofs.lemmas.Bool.Decides.{nat_tests, Decides-eqb}
 use Rattle.agg_model.specs.Problem.{Problem, low_of, high_of}

@@ -1,22 +1,19 @@
 -- What domains of one class per area are worth holds of every feasible grouping with these classes.
-use Rattle.std.proofs.Common.{◌≡◌, ℕ, zero, suc, ◌+◌, ◌<◌, ◌≤◌, ◌≢◌, Bool, true, false, eqb, length, refl, ap, sym, ◌∙◌, arith, subst, ◌⊎◌, inl, inr, min, max}
-use Rattle.std.specs.Prelude.{ℤ, pos, ◌+ℤ◌, ◌-ℤ◌, ◌*ℤ◌, ◌≤ℤ◌, ◌<ℤ◌, int_lt, not, ◌==◌, ◌&&◌, ◌||◌}
+use Rattle.std.proofs.Common.{◌≡◌, ℕ, zero, suc, ◌<◌, ◌≤◌, ◌≢◌, Bool, true, false, length, refl, ap, sym, ◌∙◌, arith, subst, inl, inr}
+use Rattle.std.specs.Prelude.{ℤ, pos, ◌≤ℤ◌, int_lt, not, ◌==◌, ◌||◌}
 use Rattle.std.proofs.lemmas.Int.{ints}
-use Rattle.std.proofs.lemmas.Bool.Decides.{nat_tests, Decides-eqb}
-use Rattle.whole_ring.specs.Sums.{sum_below, when}
-use Rattle.agg_model.specs.Problem.{Problem, Grouping, IsProblem, IsFeasible, IsRegion, Walk, AreLinked, areas, low_of, high_of, length_of, own_of, weight_of, threshold_of, recolouring, region, class_in, class_at, is_between_regions, region_weight, cost, recolouring_below, border_below}
+use Rattle.std.proofs.lemmas.Bool.Decides.{Decides-eqb}
+use Rattle.whole_ring.specs.Sums.{when}
+use Rattle.agg_model.specs.Problem.{Problem, Grouping, IsProblem, IsFeasible, IsRegion, Walk, areas, low_of, high_of, length_of, own_of, weight_of, threshold_of, recolouring, region, class_in, class_at, is_between_regions, region_weight, cost}
 use Rattle.whole_ring.proofs.Signs.{le-mul}
 use Rattle.whole_ring.proofs.Sums.{sum_below-le, sum_below-same}
 use Rattle.agg_model.proofs.CostLemmas.{weights_nonnegative}
-use Rattle.row_laws.proofs.Tests.{by_test, clash, and_both, or_left, or_right, not_false, not_of_false, either}
+use Rattle.row_laws.proofs.Tests.{by_test, clash, and_both, or_left, or_right}
 use Rattle.row_laws.proofs.ComponentLemmas.{one_label}
-use Rattle.row_laws.specs.Components.{label}
 use Rattle.row_laws.specs.Laws.{FixedLaw}
 use Rattle.row_laws.specs.Values.{Allowed, IsInside}
 use Rattle.row_laws.specs.Bounds.{HoldsFor}
-use Rattle.row_laws.specs.Fixed.{IsSingle, only_of, AreSingle, kind_in, Kinds, is_same_kind, component, is_owned_below, component_weight, is_lacking, has_lack_below, fixed_cost, fixed_value}
-use Rattle.row_laws.specs.declared.bound.Bound.{Bound}
-use Rattle.row_laws.specs.declared.bound.Bound.TheVariants.{Least, Void}
+use Rattle.row_laws.specs.Fixed.{only_of, AreSingle, kind_in, Kinds, is_same_kind, component, is_owned_below, component_weight, is_lacking, has_lack_below, fixed_cost, fixed_value}
 
 -- ---- regions lie in components
 

@@ -9,7 +9,8 @@ use Rattle.row_laws.specs.declared.bound.Bound.{Bound}
 use Rattle.row_laws.specs.declared.bound.Bound.TheVariants.{Least}
 use Rattle.row_laws.specs.declared.bound.Weak.{Weak}
 
-least_in : (r : Result Bound Weak) (a b : Bound) → r ≡ Ok a → r ≡ Ok b → a ≡ b
+-- an answer has one bound
+pub least_in : (r : Result Bound Weak) (a b : Bound) → r ≡ Ok a → r ≡ Ok b → a ≡ b
 least_in r a b h k =
     let both : Ok a ≡ Ok b = sym h ∙ k in
     cc

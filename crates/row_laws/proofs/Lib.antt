@@ -7,3 +7,6 @@ pub mod TreeLemmas
 pub mod ComponentLemmas
 pub mod FixedLemmas
 pub mod FloorLemmas
+pub mod PlainLemmas
+pub mod VoidLemmas
+pub mod LeafLemmas

@@ -1,16 +1,15 @@
 -- Every feasible grouping keeps every row that is in form.
-use Rattle.std.proofs.Common.{◌≡◌, ℕ, zero, suc, ◌+◌, ◌*◌, ◌<◌, ◌≤◌, ◌≢◌, Bool, true, false, eqb, List, [], ◌∷◌, ◌++◌, length, refl, ap, sym, ◌∙◌, arith, ◌⊎◌, inl, inr, subst}
-use Rattle.std.specs.Prelude.{ℤ, pos, negsuc, ◌+ℤ◌, ◌-ℤ◌, ◌*ℤ◌, ◌≤ℤ◌, ◌<ℤ◌, ◌==◌, not, ◌&&◌, ◌||◌, map, slice_index}
+use Rattle.std.proofs.Common.{◌≡◌, ℕ, zero, suc, ◌<◌, ◌≢◌, Bool, true, false, List, [], ◌∷◌, ◌++◌, length, refl, ap, sym, ◌∙◌, arith, ◌⊎◌, inl, inr, subst}
+use Rattle.std.specs.Prelude.{ℤ, pos, negsuc, ◌+ℤ◌, ◌≤ℤ◌, ◌==◌, not, ◌&&◌, ◌||◌, map, slice_index}
 use Rattle.std.proofs.lemmas.Int.{ints}
-use Rattle.std.proofs.lemmas.Bool.Decides.{nat_tests, Decides-eqb}
-use Rattle.row_laws.specs.declared.row.Row.{Row}
+use Rattle.std.proofs.lemmas.Bool.Decides.{Decides-eqb}
 use Rattle.row_laws.specs.declared.row.Row.TheVariants.{Border, Escape}
 use Rattle.whole_ring.specs.Sums.{sum_below, when}
-use Rattle.agg_model.specs.Problem.{Problem, Grouping, IsProblem, IsFeasible, IsRegion, IsNumbered, Walk, AreLinked, areas, own_of, weight_of, threshold_of, low_of, high_of, region, class_in, class_at, is_between_regions, region_weight, IsRising}
-use Rattle.row_laws.specs.Rows.{Place, Choice, Across, is_in, has_link_into, is_neighbour, neighbours_below, near_end, far_end, entries, is_marked, entries_at, row_at, set_weight, IsBorder, IsEscape, IsInForm}
+use Rattle.agg_model.specs.Problem.{Problem, Grouping, IsProblem, IsFeasible, IsRegion, Walk, areas, weight_of, threshold_of, low_of, high_of, region, class_in, class_at, is_between_regions, region_weight}
+use Rattle.row_laws.specs.Rows.{Place, Choice, is_in, has_link_into, is_neighbour, neighbours_below, entries_at, row_at, set_weight, IsEscape}
 use Rattle.whole_ring.proofs.Sums.{sum_below-le}
 use Rattle.row_laws.proofs.SumLemmas.{sum_below-add, sum_below-none, sum_below-point}
-use Rattle.row_laws.proofs.Tests.{by_test, clash, or_left, or_right, and_both, either, not_false, not_of_false}
+use Rattle.row_laws.proofs.Tests.{by_test, clash, or_left, or_right, and_both, not_false, not_of_false}
 use Rattle.row_laws.specs.Laws.{RowLaw}
 
 -- ---- border rows

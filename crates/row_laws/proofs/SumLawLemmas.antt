@@ -1,24 +1,23 @@
 -- The law of a sum of rows, by weak duality.
-use Rattle.std.proofs.Common.{◌≡◌, ℕ, zero, suc, ◌+◌, ◌*◌, ◌/◌, ◌<◌, ◌≤◌, ◌≢◌, Bool, true, false, eqb, List, [], ◌∷◌, ◌++◌, length, refl, ap, sym, ◌∙◌, arith, ◌⊎◌, inl, inr, subst, Option, Some, None}
-use Rattle.std.specs.Prelude.{ℤ, pos, negsuc, ◌+ℤ◌, ◌-ℤ◌, ◌*ℤ◌, ◌≤ℤ◌, ◌<ℤ◌, neg_ℤ, ◌==◌, not, ◌&&◌, ◌||◌, map, slice_index, int_le, unwrap_or}
-use Rattle.std.specs.Int.{int_min, int_div_euclid}
-use Rattle.std.proofs.lemmas.Int.{ints, clamps, int_min_is}
+use Rattle.std.proofs.Common.{◌≡◌, ℕ, zero, suc, ◌+◌, ◌*◌, ◌/◌, ◌<◌, ◌≤◌, ◌≢◌, Bool, true, false, eqb, List, [], ◌∷◌, ◌++◌, length, refl, ap, sym, ◌∙◌, arith, subst, Option, Some, None}
+use Rattle.std.specs.Prelude.{ℤ, pos, negsuc, ◌+ℤ◌, ◌-ℤ◌, ◌*ℤ◌, ◌≤ℤ◌, ◌==◌, ◌&&◌, map, int_le, unwrap_or}
+use Rattle.std.specs.Int.{int_min}
+use Rattle.std.proofs.lemmas.Int.{ints, clamps}
 use Rattle.std.proofs.lemmas.Bool.Decides.{nat_tests, Decides-eqb}
 use Rattle.std.proofs.lemmas.Nat.{div_below, le-div}
 use Rattle.row_laws.specs.declared.row.Row.{Row}
 use Rattle.row_laws.specs.declared.row.Row.TheVariants.{Border, Escape}
 use Rattle.whole_ring.specs.Sums.{sum_below, when}
-use Rattle.agg_model.specs.Problem.{Problem, Grouping, IsProblem, IsFeasible, IsNumbered, areas, recolouring, length_of, is_between_regions, class_at, cost}
-use Rattle.row_laws.specs.Rows.{Place, Choice, Across, is_same_place, neighbours_below, is_neighbour, near_end, far_end, entries, is_marked, entries_at, row_at, IsInForm}
+use Rattle.agg_model.specs.Problem.{Problem, Grouping, IsProblem, IsFeasible, areas, recolouring, length_of, is_between_regions, class_at, cost}
+use Rattle.row_laws.specs.Rows.{Place, Choice, Across, is_same_place, neighbours_below, is_neighbour, entries, is_marked, entries_at, row_at, IsInForm}
 use Rattle.whole_ring.proofs.Laws.{*ℤ-+ℤ}
-use Rattle.whole_ring.proofs.Signs.{nonneg-mul, le-mul}
+use Rattle.whole_ring.proofs.Signs.{nonneg-mul}
 use Rattle.whole_ring.proofs.Sums.{sum_below-le, sum_below-same, sum_below-scale}
 use Rattle.row_laws.proofs.SumLemmas.{sum_below-add, sum_below-none, sum_below-point}
 use Rattle.row_laws.proofs.Tests.{by_test, clash}
 use Rattle.row_laws.proofs.RowLemmas.{row_law}
 use Rattle.row_laws.specs.Values.{RowSum, Allowed, IsInside, scale, moves, amount_at, start_at, left_at, lesser, least_below, area_term, link_term, total, over, worth, value_of, AreGoodRows, IsSoundSum, bordering}
 use Rattle.row_laws.specs.declared.bound.Bound.{Bound}
-use Rattle.row_laws.specs.declared.bound.Bound.TheVariants.{Least, Void}
 use Rattle.row_laws.specs.Laws.{SumLaw}
 use Rattle.row_laws.proofs.WidthLemmas.{answer_is}
 use Rattle.row_laws.specs.Bounds.{HoldsFor, HoldsInside}
@@ -183,7 +182,7 @@ lesser_first (Some y) x = omega (arith, ints, clamps)
 lesser_rest : (y x : ℤ) → int_min y x ≤ℤ y
 lesser_rest y x = omega (arith, ints, clamps)
 
-abbrev IsAtMost : Option ℤ → ℤ → Type 0
+abbrev pub IsAtMost : Option ℤ → ℤ → Type 0
 IsAtMost None x = ⊥
 IsAtMost (Some y) x = y ≤ℤ x
 
@@ -191,7 +190,7 @@ lesser_kept : (o : Option ℤ) (x z : ℤ) → IsAtMost o z → lesser o x ≤�
 lesser_kept None x z h = absurd h
 lesser_kept (Some y) x z h = omega (arith, ints, clamps)
 
-least_at_most : (ok : ℕ → Bool) (f : ℕ → ℤ) (n k : ℕ) → k < n → ok k ≡ true → IsAtMost (least_below ok f n) (f k)
+pub least_at_most : (ok : ℕ → Bool) (f : ℕ → ℤ) (n k : ℕ) → k < n → ok k ≡ true → IsAtMost (least_below ok f n) (f k)
 least_at_most ok f zero k h e = absurd (omega arith)
 least_at_most ok f (suc n) k h e =
     by_test (k == n) _
@@ -206,7 +205,7 @@ least_at_most ok f (suc n) k h e =
     (λ b. rw b (lesser_kept (least_below ok f n) (f n) (f k) ih))
     (λ b. rw b ih))
 
-unwrapped : (o : Option ℤ) (d x : ℤ) → IsAtMost o x → unwrap_or o d ≤ℤ x
+pub unwrapped : (o : Option ℤ) (d x : ℤ) → IsAtMost o x → unwrap_or o d ≤ℤ x
 unwrapped None d x h = absurd h
 unwrapped (Some y) d x h = h
 

@@ -1,18 +1,18 @@
 -- The law of a tree, for every kind of leaf that has the law of a leaf.
-use Rattle.std.proofs.Common.{◌≡◌, ℕ, ◌<◌, ◌≤◌, ◌≢◌, Bool, true, false, eqb, refl, ap, sym, ◌∙◌, arith, subst, Option, Some, None}
-use Rattle.std.specs.Prelude.{ℤ, pos, ◌≤ℤ◌, ◌==◌, not, ◌&&◌, int_le}
+use Rattle.std.proofs.Common.{◌≡◌, ℕ, false, refl, ap, ◌∙◌, arith, Option, Some}
+use Rattle.std.specs.Prelude.{◌≤ℤ◌, ◌==◌, int_le}
 use Rattle.std.proofs.lemmas.Int.{ints}
 use Rattle.std.proofs.lemmas.Bool.Decides.{Decides-eqb}
-use Rattle.agg_model.specs.Problem.{Problem, Grouping, IsProblem, IsFeasible, areas, class_at}
-use Rattle.row_laws.proofs.Tests.{by_test, clash, and_both, not_of_false}
+use Rattle.agg_model.specs.Problem.{Problem, Grouping, class_at}
+use Rattle.row_laws.proofs.Tests.{by_test, and_both, not_of_false}
 use Rattle.row_laws.specs.Values.{Allowed, IsInside}
-use Rattle.row_laws.specs.Bounds.{HoldsFor, HoldsInside}
-use Rattle.row_laws.specs.Trees.{only, without, lesser_bound, lesser_of, bound_in, IsSoundTree, bound_of, LeafLaw, TreeLaw}
+use Rattle.row_laws.specs.Bounds.{HoldsFor}
+use Rattle.row_laws.specs.Trees.{only, without, lesser_bound, lesser_of, LeafLaw, TreeLaw}
 use Rattle.row_laws.specs.declared.bound.Weak.{Weak}
-use Rattle.std.specs.Prelude.{Result, Ok, Err}
+use Rattle.std.specs.Prelude.{Result}
 use Rattle.row_laws.specs.declared.bound.Bound.{Bound}
 use Rattle.row_laws.specs.declared.bound.Bound.TheVariants.{Least, Void}
-use Rattle.row_laws.specs.declared.tree.Tree.{Tree, Leaf, Split'}
+use Rattle.row_laws.specs.declared.tree.Tree.{Leaf, Split'}
 
 -- a lesser bound holds where either does
 lesser_left : (a b : Bound) (p : Problem) (g : Grouping) → HoldsFor a p g → HoldsFor (lesser_bound a b) p g

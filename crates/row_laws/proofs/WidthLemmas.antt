@@ -1,22 +1,19 @@
 -- Where every number fits, the value in 128 bits is the value over whole numbers.
-use Rattle.std.proofs.Common.{◌≡◌, ℕ, zero, suc, ◌+◌, ◌<◌, ◌≤◌, Bool, true, false, eqb, List, [], ◌∷◌, length, refl, ap, sym, ◌∙◌, arith, subst, Option, Some, None, Result, Ok, Err}
-use Rattle.std.specs.Prelude.{ℤ, pos, negsuc, ◌+ℤ◌, ◌-ℤ◌, ◌≤ℤ◌, int_le, unwrap_or, ◌==◌, ◌&&◌}
-use Rattle.std.specs.Int.{int_min}
+use Rattle.std.proofs.Common.{◌≡◌, ℕ, zero, suc, Bool, true, false, List, [], ◌∷◌, length, refl, ap, sym, ◌∙◌, arith, Some, Result, Ok, Err}
+use Rattle.std.specs.Prelude.{ℤ, pos, ◌+ℤ◌, ◌-ℤ◌, int_le}
 use Rattle.std.proofs.lemmas.Int.{ints}
-use Rattle.std.proofs.lemmas.Bool.Decides.{Decides-eqb}
 use mathlib.Core.Path.{fun_ext}
 use Rattle.whole_ring.specs.Sums.{sum_below, when}
 use Rattle.agg_model.specs.Problem.{Problem, areas}
-use Rattle.row_laws.specs.Rows.{Place, Choice, Across, is_same_place}
-use Rattle.row_laws.proofs.Tests.{by_test, clash, and_both}
-use Rattle.row_laws.specs.Values.{RowSum, Allowed, moves, start_at, amount_at, left_at, least_below, over, total, worth, value_of, area_term, link_term}
-use Rattle.row_laws.specs.Exact.{is_in_128, lower, run, add_term, add_up, entry_of, area_term_at, link_term_at, finish, with_links, answer_at, answer}
+use Rattle.row_laws.specs.Rows.{Place, is_same_place}
+use Rattle.row_laws.proofs.Tests.{by_test}
+use Rattle.row_laws.specs.Values.{RowSum, Allowed, moves, start_at, amount_at, left_at, over, total, worth, value_of}
+use Rattle.row_laws.specs.Exact.{is_in_128, lower, run, add_term, add_up, area_term_at, link_term_at, finish, with_links, answer_at, answer}
 use Rattle.row_laws.specs.declared.bound.Bound.{Bound}
 use Rattle.row_laws.specs.declared.bound.Bound.TheVariants.{Least, Void}
 use Rattle.row_laws.specs.declared.bound.Entry.{Entry}
 use Rattle.row_laws.specs.declared.bound.Entry.TheVariants.{TotalArea, TotalLink}
-use Rattle.row_laws.specs.declared.bound.Weak.{Weak}
-use Rattle.row_laws.specs.declared.bound.Weak.TheVariants.{Wide, NotVoid}
+use Rattle.row_laws.specs.declared.bound.Weak.TheVariants.{NotVoid}
 
 err_ok : {A E P : Type 0} (r : Result A E) (e : E) (x : A) → r ≡ Err e → r ≡ Ok x → P
 err_ok r e x h k = cc

@@ -1,5 +1,5 @@
 -- What it means that a bound holds.
-use Rattle.std.specs.Prelude.{ℤ, ◌≤ℤ◌}
+use Rattle.std.specs.Prelude.{◌≤ℤ◌}
 use Rattle.agg_model.specs.Problem.{Problem, Grouping, IsFeasible, cost}
 use Rattle.row_laws.specs.Values.{Allowed, IsInside}
 use Rattle.row_laws.specs.declared.bound.Bound.{Bound}

@@ -1,5 +1,5 @@
 -- What a sum of rows is worth in numbers of 128 bits, and the first number that does not fit.
-use Rattle.std.specs.Prelude.{◌≡◌, ℕ, zero, suc, ◌^◌, Bool, true, false, List, [], ◌∷◌, length, ℤ, pos, negsuc, ◌+ℤ◌, ◌-ℤ◌, int_le, nat_lt, if◌then◌else◌, Option, Some, None, unwrap_or, Result, Ok, Err}
+use Rattle.std.specs.Prelude.{ℕ, zero, suc, ◌^◌, Bool, true, false, List, [], ◌∷◌, length, ℤ, pos, negsuc, ◌+ℤ◌, ◌-ℤ◌, int_le, nat_lt, if◌then◌else◌, unwrap_or, Result, Ok, Err}
 use Rattle.std.specs.Int.{int_min}
 use Rattle.agg_model.specs.Problem.{Problem, areas}
 use Rattle.row_laws.specs.Rows.{Place, Choice, Across, is_same_place}

@@ -1,5 +1,5 @@
 -- What domains of one class per area are worth.
-use Rattle.std.specs.Prelude.{◌≡◌, ℕ, zero, suc, ◌<◌, ◌≤◌, ◌⊎◌, Bool, true, false, not, ◌&&◌, ◌||◌, ◌==◌, length, min, max, ℤ, pos, ◌+ℤ◌, ◌*ℤ◌, ◌≤ℤ◌, int_lt, if◌then◌else◌}
+use Rattle.std.specs.Prelude.{◌≡◌, ℕ, zero, suc, ◌<◌, Bool, true, false, not, ◌&&◌, ◌||◌, ◌==◌, length, ℤ, pos, ◌+ℤ◌, ◌*ℤ◌, int_lt, if◌then◌else◌}
 use Rattle.whole_ring.specs.Sums.{sum_below, when}
 use Rattle.agg_model.specs.Problem.{Problem, areas, low_of, high_of, length_of, own_of, weight_of, threshold_of, recolouring}
 use Rattle.row_laws.specs.Values.{Allowed}

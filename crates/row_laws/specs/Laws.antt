@@ -1,10 +1,12 @@
 -- The laws that this crate proves.
-use Rattle.std.specs.Prelude.{◌≡◌, ℤ, pos, ◌≤ℤ◌, Result, Ok}
+use Rattle.std.specs.Prelude.{◌≡◌, pos, ◌≤ℤ◌, Ok}
 use Rattle.agg_model.specs.Problem.{Problem, Grouping, IsProblem, IsFeasible, areas}
 use Rattle.row_laws.specs.declared.row.Row.{Row}
 use Rattle.row_laws.specs.declared.bound.Bound.{Bound}
 use Rattle.row_laws.specs.Rows.{row_at, IsInForm}
-use Rattle.row_laws.specs.Values.{RowSum, Allowed, IsSoundSum}
+use Rattle.row_laws.specs.Values.{RowSum, Allowed, IsInside, IsSoundSum}
+use Rattle.row_laws.specs.Trees.{LeafLaw}
+use Rattle.row_laws.specs.Leaves.{IsSoundLeaf, leaf_answer, IsRoot}
 use Rattle.row_laws.specs.Bounds.{HoldsInside}
 use Rattle.row_laws.specs.Exact.{answer}
 use Rattle.row_laws.specs.Fixed.{AreSingle, fixed_value, kind_in}
@@ -23,3 +25,11 @@ SumLaw =
 abbrev pub FixedLaw : Type 0
 FixedLaw =
     (p : Problem) (allowed : Allowed) → IsProblem p → AreSingle p allowed (areas p) → HoldsInside p allowed (fixed_value p (kind_in p allowed))
+
+-- the value of a sound leaf holds
+abbrev pub LeavesLaw : Type 0
+LeavesLaw = LeafLaw IsSoundLeaf leaf_answer
+
+-- every feasible grouping is inside the domains of the root
+abbrev pub RootLaw : Type 0
+RootLaw = (p : Problem) (allowed : Allowed) (g : Grouping) → IsProblem p → IsFeasible p g → IsRoot p allowed → IsInside p allowed g

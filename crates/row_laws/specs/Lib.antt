@@ -5,4 +5,6 @@ pub mod Exact
 pub mod Components
 pub mod Fixed
 pub mod Trees
+pub mod Leaves
 pub mod Laws
+pub mod FirstSums

@@ -1,8 +1,8 @@
 -- Rows, and their sums at a grouping.
-use Rattle.std.specs.Prelude.{◌≡◌, ℕ, zero, suc, ◌+◌, ◌*◌, ◌<◌, ◌≤◌, ◌⊎◌, Bool, true, false, not, ◌&&◌, ◌||◌, ◌==◌, List, [], ◌∷◌, ◌++◌, map, length, slice_index, slice_index_or, ℤ, pos, negsuc, ◌+ℤ◌, ◌*ℤ◌, ◌≤ℤ◌, ◌<ℤ◌, if◌then◌else◌}
+use Rattle.std.specs.Prelude.{◌≡◌, ℕ, zero, suc, ◌<◌, ◌≤◌, ◌⊎◌, Bool, true, false, not, ◌&&◌, ◌||◌, ◌==◌, List, [], ◌∷◌, ◌++◌, map, length, slice_index, ℤ, pos, negsuc, ◌+ℤ◌, ◌<ℤ◌, if◌then◌else◌}
 use Rattle.row_laws.specs.declared.row.Row.{Row}
 use Rattle.row_laws.specs.declared.row.Row.TheVariants.{Border, Escape}
-use Rattle.whole_ring.specs.Sums.{sum_below, when}
+use Rattle.whole_ring.specs.Sums.{when}
 use Rattle.agg_model.specs.Problem.{Problem, Grouping, areas, own_of, weight_of, threshold_of, low_of, high_of, class_at, is_between_regions, IsRising}
 
 -- where a row has a coefficient

@@ -1,8 +1,8 @@
 -- Trees of splits, and the bound that one proves.
-use Rattle.std.specs.Prelude.{◌≡◌, ℕ, ◌<◌, Bool, true, not, ◌&&◌, ◌==◌, ℤ, pos, ◌≤ℤ◌, int_le, if◌then◌else◌, Option, Some, None, Result, Ok, Err, ◌+◌, max}
-use Rattle.agg_model.specs.Problem.{Problem, Grouping, IsProblem, IsFeasible, areas}
-use Rattle.row_laws.specs.Values.{Allowed, IsInside}
-use Rattle.row_laws.specs.Bounds.{HoldsFor, HoldsInside}
+use Rattle.std.specs.Prelude.{◌≡◌, ℕ, ◌<◌, true, not, ◌&&◌, ◌==◌, int_le, if◌then◌else◌, Option, Some, None, Result, Ok, Err, ◌+◌, max}
+use Rattle.agg_model.specs.Problem.{Problem, IsProblem, areas}
+use Rattle.row_laws.specs.Values.{Allowed}
+use Rattle.row_laws.specs.Bounds.{HoldsInside}
 use Rattle.row_laws.specs.declared.bound.Bound.{Bound}
 use Rattle.row_laws.specs.declared.bound.Bound.TheVariants.{Least, Void}
 use Rattle.row_laws.specs.declared.bound.Weak.{Weak}
@@ -56,6 +56,16 @@ LeafLaw {L} sound answer =
 abbrev pub TreeLaw : {L : Type 0} → (L → Problem → Allowed → Type 0) → (L → Problem → Allowed → Result Bound Weak) → Type 0
 TreeLaw {L} sound answer =
     (tree : Tree L) (p : Problem) (allowed : Allowed) → IsProblem p → IsSoundTree sound answer p tree allowed → (b : Bound) × (bound_of answer p tree allowed ≡ Some b) × HoldsInside p allowed b
+
+-- ---- copies
+
+-- the same splits of the same areas by the same classes, and the same leaves
+abbrev pub IsSameTree : {L : Type 0} → Tree L → Tree L → Type 0
+IsSameTree (Leaf l) (Leaf m) = l ≡ m
+IsSameTree (Leaf l) (Split' u j _ with' _ rest') = ⊥
+IsSameTree (Split' v k _ with _ rest) (Leaf m) = ⊥
+IsSameTree (Split' v k _ with _ rest) (Split' u j _ with' _ rest') =
+    (v ≡ u) × (k ≡ j) × IsSameTree with with' × IsSameTree rest rest'
 
 -- ---- size
 

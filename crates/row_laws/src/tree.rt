@@ -1,6 +1,10 @@
 // Trees of splits.
-ghost use Rattle.std.specs.Prelude.{◌≡◌, ◌^◌, ◌-◌, min};
-ghost use Rattle.row_laws.specs.Trees.{split_count, depth_of};
+ghost use Rattle.std.specs.Prelude.{◌≡◌, ◌^◌, ◌-◌, min, IfOk};
+ghost use Rattle.row_laws.specs.Trees.{split_count, depth_of, IsSameTree};
+
+use crate::Leaf;
+use agg_base::NoMemory;
+use std::alloc::Global;
 
 /// Splits down to leaves that each prove a bound. A split's `yes` child allows its area only the class, its `no` child all that were allowed
 /// but the class.
@@ -38,5 +42,27 @@ pub fn depth<L>(tree: &Tree<L>) -> u64
     match tree {
         Tree::Leaf(_) => 0,
         Tree::Split { yes, no, .. } => depth(yes).max(depth(no)).saturating_add(1),
+    }
+}
+
+impl Tree<Leaf> {
+    /// The same tree again. It calls itself as deep as the tree is. Its one refusal is want of memory.
+    pub fn copy(&self, alloc: Global) -> Result<Tree<Leaf>, NoMemory>
+        ensures { IfOk result (λ tree. IsSameTree tree self.now) }
+    {
+        match self {
+            Tree::Leaf(leaf) => Ok(Tree::Leaf(leaf.copy(alloc)?)),
+            Tree::Split {
+                area,
+                class,
+                yes,
+                no,
+            } => Ok(Tree::Split {
+                area: *area,
+                class: *class,
+                yes: Box::new(alloc, yes.copy(alloc)?)?,
+                no: Box::new(alloc, no.copy(alloc)?)?,
+            }),
+        }
     }
 }
