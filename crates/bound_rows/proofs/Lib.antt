@@ -1,0 +1,14 @@
+pub mod MaskLemmas
+pub mod LoweringLemmas
+pub mod RunLemmas
+pub mod EscapeLemmas
+pub mod MarkLemmas
+pub mod WayLemmas
+pub mod MemberLemmas
+pub mod DomainLemmas
+pub mod RowRunLemmas
+pub mod TotalLemmas
+pub mod AnswerLemmas
+pub mod StartLemmas
+pub mod OfferLemmas
+pub mod KindLemmas
