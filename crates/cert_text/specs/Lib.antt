@@ -1,0 +1,4 @@
+pub mod Lines
+pub mod TreeTexts
+pub mod CertTexts
+pub mod Gives

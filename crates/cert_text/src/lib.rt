@@ -1,0 +1,16 @@
+//! The text of a certificate, and who writes it; its reader is to come.
+#![tactic(auto)]
+
+mod certificate;
+mod fault;
+mod line;
+mod push;
+mod tree_writer;
+mod writer;
+
+pub use certificate::{CertStatus, Certificate};
+pub use fault::CertFault;
+pub use writer::write;
+
+#[cfg(test)]
+mod tests;

@@ -1,0 +1,3 @@
+pub mod RootLemmas
+pub mod PlaceLemmas
+pub mod SpellingLemmas
