@@ -1,27 +1,34 @@
 -- The map of a grouping, from its parts.
-use Rattle.std.proofs.Common.{◌≡◌, ℕ, suc, ◌<◌, ◌≤◌, refl, sym, ◌∙◌, ap, subst, arith, ℤ, List, [], ◌∷◌, length, get_or, map, sum, sum_by, All, Vec}
+use Rattle.std.proofs.Common.{◌≡◌, ◌↔◌, ℕ, suc, ◌<◌, ◌≤◌, refl, sym, ◌∙◌, ap, subst, arith, ℤ, pos, ◌<ℤ◌, List, [], ◌∷◌, length, get_or, map, sum, sum_by, All, Vec}
 use Rattle.std.specs.List.{AllZip}
 use Rattle.std.specs.declared.alloc.Global.{Global}
 use Rattle.std.proofs.lemmas.List.{get_or_default, length-map}
 use Rattle.std.proofs.lemmas.List.Concat.{length-flat_map}
-use Rattle.std.proofs.lemmas.List.Elements.{All-nil, All-cons, All-head, All-tail, All-append, All-weaker}
+use Rattle.std.proofs.lemmas.List.Elements.{All-nil, All-cons, All-head, All-tail, All-append}
 use Rattle.std.proofs.lemmas.List.Sorted.{All-permutation}
 use Rattle.std.proofs.lemmas.List.Sums.{sum_by-cons, sum-map, get_or-le-sum_by}
+use Rattle.agg_base.specs.declared.limits.TheConstants.{STEPS}
 use Rattle.plane_edge.specs.Edges.{HaveEvenEnds, IsRisingEdges}
 use Rattle.plane_edge.specs.Rings.{ends_of, IsRing, is_same_step, times}
 use Rattle.plane_edge.specs.declared.edge.Edge.{Edge}
 use Rattle.plane_edge.specs.declared.point.Point.{Point}
+use Rattle.plane_edge.specs.declared.spot.Spot.{Spot}
+use Rattle.plane_edge.specs.Plane.{IsInside}
+use Rattle.plane_strip.specs.Strip.{IsPlanar}
+use Rattle.edge_sides.specs.LeftRings.{IsLeftRound}
 use Rattle.agg_model.specs.Problem.{Grouping, region}
 use Rattle.region_edges.specs.RegionEdges.{AreBorderOf}
+use Rattle.region_edges.specs.PointSets.{IsHeldBy}
 use Rattle.region_rings.specs.RegionRings.{AreRingsOf}
 use Rattle.ring_arcs.specs.RingArcs.{AreArcsOf, AreIndexesOf, AreIndexed}
 use Rattle.arc_dissolve.specs.Drawing.{one_list, rings_in, steps_of, IsShapeOf, IsDrawingOf}
 use Rattle.arc_dissolve.specs.Parts.{parts, AreShapesOfParts}
-use Rattle.arc_dissolve.specs.Rings.{IsDrawnRing}
+use Rattle.arc_dissolve.specs.Rings.{IsDrawnRing, points_round, AreLeftRings}
 use Rattle.arc_dissolve.specs.Shapes.{Shape}
 use Rattle.agg_base.specs.Lists.{lists_of}
 use Rattle.arc_dissolve.proofs.BorderLemmas.{AreDrawn, border_steps, border_arcs, zip_at, zip_length}
 use Rattle.arc_dissolve.proofs.CountLemmas.{drawn_ring, told_counts, moved_counts, equally_long}
+use Rattle.arc_dissolve.proofs.LeftLemmas.{told_rounds}
 use Rattle.arc_dissolve.proofs.ListLemmas.{all_held, lists_length}
 use Rattle.arc_dissolve.proofs.PartLemmas.{zip_parts}
 
@@ -66,10 +73,17 @@ borders_few m borders h = all_held (λ es. length es ≤ m) borders (λ k d l. o
 
 -- ---- the map
 
+-- what is inside the borders, which meet in common ends only, is what the areas of the regions hold
+pub record AreBounds (odds : List (List Edge)) (groups : Grouping) (borders : List (List Edge)) : Type 0 where
+  pub planar : (r : ℕ) → r < length groups.class_of → IsPlanar (get_or borders r [])
+  pub points : (r : ℕ) (s : Spot) → r < length groups.class_of → pos 0 <ℤ s.m → IsInside (get_or borders r []) s ↔ IsHeldBy odds (region groups) r s
+
 -- the parts from which a map is made
 pub record IsMade (odds : List (List Edge)) (groups : Grouping) (names : List (List ℕ)) (borders : List (List Edge)) (rings : List (List (List Point))) (arcs : List (List Point)) (indexes : List (List ℤ)) (shapes : List Shape) : Type 0 where
   pub drawn : AreDrawn odds groups borders rings
-  pub few : sum_by (λ es. length es) borders ≤ 2097152
+  pub bounds : AreBounds odds groups borders
+  pub left : AllZip AreLeftRings borders rings
+  pub few : sum_by (λ es. length es) borders ≤ STEPS
   pub arcs_are : AreArcsOf (one_list rings) arcs
   pub indexed : AreIndexed (one_list rings) arcs indexes
   pub shapes_are : AreShapesOfParts arcs (parts (map (λ g. length g) rings) indexes) groups.class_of names (length rings) shapes
@@ -92,12 +106,15 @@ right_shape odds groups names borders rings arcs indexes shapes r d m h =
     let told_part : AllZip (AreIndexesOf arcs) own part = zip_at (λ g p. AllZip (AreIndexesOf arcs) g p) rings (parts (map (λ g. length g) rings) indexes) r [] [] (zip_parts (AreIndexesOf arcs) rings indexes m.indexed) in_rings in
     let is = m.shapes_are.each r d in_rings in
     let steps = steps_of arcs shape in
+    let left = zip_at AreLeftRings borders rings r [] [] m.left in_borders (m.bounds.planar r h) in
+    let rounds = told_rounds border (IsHeldBy odds (region groups) r) arcs own part (λ s real. m.bounds.points r s h real) left told_part in
     let counted : (s : Point × Point) → times s steps ≡ times s (map ends_of border) = λ s.
     moved_counts (λ t. is_same_step s t) arcs part (rings_in shape.polygons) is.polygons.same ∙ (told_counts (λ t. is_same_step s t) arcs own part told_part ∙ are.exact s) in
     record {
       right = record {
         class = is.class;
         rings = All-permutation (IsDrawnRing arcs) part (rings_in shape.polygons) is.polygons.same (drawn_all arcs own part are.each told_part);
+        left = All-permutation (λ ring. IsLeftRound (IsHeldBy odds (region groups) r) (points_round arcs ring)) part (rings_in shape.polygons) is.polygons.same rounds;
         steps = border_steps odds (region groups) r border steps (m.drawn.exact r h) counted;
         polygons = is.polygons.each;
         in_order = is.polygons.in_order;

@@ -19,3 +19,4 @@ pub mod PolygonLemmas
 pub mod BorderLemmas
 pub mod DrawLemmas
 mod Examples
+pub mod LeftLemmas

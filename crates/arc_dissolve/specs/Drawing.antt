@@ -6,10 +6,12 @@ use Rattle.plane_edge.specs.Rings.{ends_of, times}
 use Rattle.plane_edge.specs.declared.edge.Edge.{Edge}
 use Rattle.plane_edge.specs.declared.point.Point.{Point}
 use Rattle.agg_model.specs.Problem.{Grouping, region, class_in}
+use Rattle.edge_sides.specs.LeftRings.{IsLeftRound}
 use Rattle.region_edges.specs.RegionEdges.{IsBorderOf}
+use Rattle.region_edges.specs.PointSets.{IsHeldBy}
 use Rattle.ring_arcs.specs.RingArcs.{steps_of_arc, steps_of_arcs, AreArcsInOrder}
 use Rattle.arc_dissolve.specs.Shapes.{Regions, Shape}
-use Rattle.arc_dissolve.specs.Rings.{IsDrawnRing, steps_round}
+use Rattle.arc_dissolve.specs.Rings.{IsDrawnRing, points_round, steps_round}
 use Rattle.arc_dissolve.specs.Holes.{IsPolygon, ArePolygonsInOrder}
 
 -- the lists one after another
@@ -46,10 +48,12 @@ pub record AreBorderArcs (odds : List (List Edge)) (groups : Grouping) (arcs : L
   pub steps : AreBorderSteps (IsBorderEdge odds groups) (steps_of_arcs arcs)
   pub in_order : AreArcsInOrder arcs
 
--- the shape of region r: the name of its class, closed rings round its border edges, and each hole with the shell that owns it; the polygons are in order
+-- the shape of region r: the name of its class, closed rings round its border edges, each of which has the region on its left, and each hole with the shell that owns it; the polygons are
+-- in order
 pub record IsShapeOf (odds : List (List Edge)) (groups : Grouping) (names : List (List ℕ)) (arcs : List (List Point)) (r : ℕ) (shape : Shape) : Type 0 where
   pub class : shape.class ≡ get_or names (class_in groups r) []
   pub rings : All (IsDrawnRing arcs) (rings_in shape.polygons)
+  pub left : All (λ ring. IsLeftRound (IsHeldBy odds (region groups) r) (points_round arcs ring)) (rings_in shape.polygons)
   pub steps : AreBorderSteps (IsBorderOf odds (region groups) r) (steps_of arcs shape)
   pub polygons : All (IsPolygon arcs (rings_in shape.polygons)) shape.polygons
   pub in_order : ArePolygonsInOrder shape.polygons

@@ -2,9 +2,16 @@
 use Rattle.std.specs.Prelude.{◌<◌, ℤ, pos, ◌+ℤ◌, ◌-ℤ◌, ◌*ℤ◌, Some, List, [], ◌∷◌, ◌++◌, length, map, flat_map, All}
 use Rattle.plane_edge.specs.Rings.{steps_of_ring, IsRing}
 use Rattle.plane_edge.specs.declared.point.Point.{Point}
+use Rattle.plane_edge.specs.declared.edge.Edge.{Edge}
+use Rattle.plane_strip.specs.Strip.{IsPlanar}
+use Rattle.region_rings.specs.RegionRings.{IsLeftRing}
 use Rattle.ring_arcs.specs.Numbers.{IsLeastAt}
 use Rattle.ring_arcs.specs.RingArcs.{arc_at, without_last, IsIndex}
 use Rattle.plane_edge.specs.Paths.{AreJoined}
+
+-- where the edges meet in common ends only, each ring goes along them with what is inside them on its left
+abbrev pub AreLeftRings : List Edge → List (List Point) → Type 0
+AreLeftRings edges rings = IsPlanar edges → All (IsLeftRing edges) rings
 
 -- the points of the ring: arc after arc, each without its last point
 abbrev pub points_round : List (List Point) → List ℤ → List Point

@@ -4,6 +4,7 @@ ghost use Rattle.std.specs.List.{AllZip};
 ghost use Rattle.plane_edge.specs.Edges.{HaveEvenEnds, IsRisingEdges};
 ghost use Rattle.region_rings.specs.RegionRings.{AreRingsOf};
 ghost use Rattle.arc_dissolve.specs.Drawing.{one_list};
+ghost use Rattle.arc_dissolve.specs.Rings.{AreLeftRings};
 ghost use Rattle.agg_base.specs.Lists.{lists_of, nested_of};
 
 use agg_base::NoMemory;
@@ -19,12 +20,13 @@ pub struct Groups {
     pub counts: Vec<usize>,
 }
 
-/// The rings of each region.
+/// The rings of each region. Where the edges of a border meet in common ends only, each of its rings has what is inside them on its left.
 pub fn all_rings(alloc: Global, borders: &[Vec<Edge>]) -> Result<Vec<Vec<Vec<Point>>>, NoMemory>
     requires rising { All (λ border. IsRisingEdges border.items) borders.now }
     requires even { All (λ border. HaveEvenEnds border.items) borders.now }
     requires few { All (λ border. length border.items ≤ STEPS) borders.now }
-    ensures { IfOk result (λ groups. AllZip AreRingsOf (lists_of borders.now) (nested_of groups.items)) }
+    ensures rings { IfOk result (λ groups. AllZip AreRingsOf (lists_of borders.now) (nested_of groups.items)) }
+    ensures left { IfOk result (λ groups. AllZip AreLeftRings (lists_of borders.now) (nested_of groups.items)) }
 {
     let mut groups = Vec::new(alloc);
     for border in borders {

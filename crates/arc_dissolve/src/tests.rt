@@ -3,6 +3,7 @@ ghost use Rattle.std.specs.Prelude.{◌<◌, EachIndex, IsTrue, slice_index};
 
 use super::*;
 use agg_base::Text;
+use agg_base::limits::AREAS;
 use agg_model::Grouping;
 use coverage_check::{Checked, check};
 use crew_work::Alone;
@@ -96,7 +97,7 @@ fn drawn(
     };
     let names = names(alloc)?;
     let regions = grouping.class_of.len();
-    assert!(rt; grouping.region_of.len() == checked.areas() && regions <= 65_536);
+    assert!(rt; grouping.region_of.len() == checked.areas() && regions <= AREAS);
     let regions_below = are_regions_below(&grouping.region_of, regions);
     assert!(rt; regions_below);
     let classes_below = are_classes_below(&grouping.class_of, names.len());

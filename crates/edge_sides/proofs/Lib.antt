@@ -8,3 +8,4 @@ pub mod Balance
 pub mod SideTests
 pub mod Onward
 mod Examples
+pub mod LeftPaths

@@ -6,7 +6,7 @@ use Rattle.plane_edge.specs.declared.edge.Edge.{Edge}
 use Rattle.plane_edge.specs.declared.spot.Spot.{Spot}
 use Rattle.plane_edge.specs.Middle.{middle_of}
 use Rattle.plane_edge.specs.Plane.{IsInside}
-use Rattle.edge_sides.specs.Sides.{is_level, IsLeftward, is_inside, is_leftward}
+use Rattle.edge_sides.specs.Sides.{is_level, IsLeftward, IsOnRight, is_inside, is_leftward}
 
 odd_from : (n : ℕ) → ((n % 2) == 1) ≡ true → n % 2 ≡ 1
 odd_from n h = grind (arith, nat_tests)
@@ -24,6 +24,15 @@ tells es e false false l h = (λ t. record { level = λ k. absurd (true≢false 
 
 pub leftward_test : (es : List Edge) (e : Edge) → IsTrue (is_leftward es e) ↔ IsLeftward es e
 leftward_test es e = tells es e (is_level e) (is_inside es (middle_of e)) refl (inside_test es (middle_of e))
+
+tells_right : (es : List Edge) (e : Edge) (l i : Bool) → is_level e ≡ l → IsTrue i ↔ IsInside es (middle_of e) → (if l then i else not i) ≡ false → IsOnRight (IsInside es) e
+tells_right es e true i l h f = record { level = λ _ k. true≢false (sym (h.1 k) ∙ f); rising = λ k. absurd (true≢false (sym l ∙ k)) }
+tells_right es e false true l h f = record { level = λ k. absurd (true≢false (sym k ∙ l)); rising = λ _. h.0 refl }
+tells_right es e false false l h f = absurd (true≢false f)
+
+-- what is not on the left of an edge is on its right
+pub rightward : (es : List Edge) (e : Edge) → is_leftward es e ≡ false → IsOnRight (IsInside es) e
+rightward es e = tells_right es e (is_level e) (is_inside es (middle_of e)) refl (inside_test es (middle_of e))
 
 alike : (a b : Bool) (P : Type 0) → IsTrue a ↔ P → IsTrue b ↔ P → a ≡ b
 alike true true P h k = refl

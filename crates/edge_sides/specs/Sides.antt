@@ -11,11 +11,20 @@ use Rattle.plane_edge.specs.declared.spot.Spot.{Spot}
 abbrev pub is_level : Edge → Bool
 is_level e = int_eq e.low.y e.high.y
 
--- the region is on the left of the edge, seen from its low end to its high end. The ray from its middle does not cross the edge itself, so the middle is inside exactly where what
--- lies just above a level edge, or just to the right of a rising one, is
-pub record IsLeftward (edges : List Edge) (e : Edge) : Type 0 where
-  pub level : is_level e ≡ true → IsInside edges (middle_of e)
-  pub rising : is_level e ≡ false → ¬ IsInside edges (middle_of e)
+-- The region, whose points are those that are held, is on the left of the edge, seen from its low end to its high end. The ray from its middle does not cross the edge itself, so the middle
+-- is held exactly where what lies just above a level edge, or just to the right of a rising one, is
+pub record IsOnLeft (IsHeld : Spot → Type 0) (e : Edge) : Type 0 where
+  pub level : is_level e ≡ true → IsHeld (middle_of e)
+  pub rising : is_level e ≡ false → ¬ IsHeld (middle_of e)
+
+-- it is on the right of the edge, seen so
+pub record IsOnRight (IsHeld : Spot → Type 0) (e : Edge) : Type 0 where
+  pub level : is_level e ≡ true → ¬ IsHeld (middle_of e)
+  pub rising : is_level e ≡ false → IsHeld (middle_of e)
+
+-- what is inside the edges is on the left of the edge
+abbrev pub IsLeftward : List Edge → Edge → Type 0
+IsLeftward edges e = IsOnLeft (IsInside edges) e
 
 -- `IsInside` as a test
 abbrev pub is_inside : List Edge → Spot → Bool

@@ -1,9 +1,11 @@
 -- From the drawing of a grouping and the text of a drawing to the written map.
-use Rattle.std.proofs.Common.{◌≡◌, ℕ, zero, suc, ◌<◌, List, [], ◌∷◌, length, map, get_or, Contains, refl, sym, subst, ap, ◌∙◌, arith}
+use Rattle.std.proofs.Common.{◌≡◌, ℕ, zero, suc, ◌<◌, ◌≤◌, ℤ, List, [], ◌∷◌, length, map, get_or, All, Contains, refl, sym, subst, ap, ◌∙◌, arith}
+use Rattle.std.proofs.lemmas.List.Elements.{All-nil, All-cons, All-head, All-tail, recursion_from_All}
 use Rattle.std.specs.List.{AllZip}
 use Rattle.plane_edge.specs.declared.edge.Edge.{Edge}
 use Rattle.plane_edge.specs.declared.frame.Frame.{Frame}
 use Rattle.plane_edge.specs.declared.point.Point.{Point}
+use Rattle.plane_edge.specs.declared.spot.Spot.{Spot}
 use Rattle.plane_edge.specs.Edges.{occurrences}
 use Rattle.plane_edge.specs.Rings.{Area, ends_of, times, is_same_step}
 use Rattle.coverage_check.specs.Checked.{Checked, IsChecked}
@@ -15,13 +17,19 @@ use Rattle.plane_edge.proofs.EqualLemmas.{edges_equal}
 use Rattle.plane_edge.proofs.OddLemmas.{contains_from_occurs, odd_inside}
 use Rattle.agg_model.specs.Problem.{Grouping, region}
 use Rattle.region_edges.specs.RegionEdges.{IsBorderOf}
-use Rattle.region_edges.specs.PointSets.{AreStepsOf, AreRisingLists}
+use Rattle.edge_sides.specs.LeftRings.{IsLeftRound, IsLeftPath}
+use Rattle.edge_sides.proofs.LeftPaths.{closed_round}
+use Rattle.region_edges.specs.PointSets.{AreStepsOf, AreRisingLists, IsHeldBy}
 use Rattle.region_edges.proofs.GatherLemmas.{rising_lists}
 use Rattle.region_edges.proofs.PointLemmas.{drawn_holds}
 use Rattle.map_values.specs.Frames.{IsNumberFrame}
 use Rattle.arc_dissolve.specs.Shapes.{Regions, Shape}
-use Rattle.arc_dissolve.specs.Drawing.{IsDrawingOf, IsShapeOf, AreBorderSteps, steps_of}
-use Rattle.topo_writer.specs.Drawing.{IsWritable, IsAreaOf, SpellsDrawn}
+use Rattle.ring_arcs.specs.RingArcs.{IsIndex}
+use Rattle.topo_reader.specs.Rings.{SpellsRings}
+use Rattle.arc_dissolve.specs.Rings.{IsDrawnRing, points_round}
+use Rattle.arc_dissolve.specs.Drawing.{IsDrawingOf, IsShapeOf, AreBorderSteps, rings_in, steps_of}
+use Rattle.topo_writer.specs.Drawing.{IsWritable, IsAreaOf, SpellsDrawn, closed_path}
+use Rattle.topo_writer.proofs.RingPoints.{closed_at}
 use Rattle.topo_writer.specs.MapText.{map_text}
 use Rattle.topo_writer.proofs.Writable.{drawing_is_writable}
 use Rattle.map_drawing.specs.Drawn.{IsDrawable, IsDrawnRegion, IsDrawnMap, area_at}
@@ -100,6 +108,17 @@ zip_at R (x ∷ xs) [] i d e h k = absurd h
 zip_at R (x ∷ xs) (y ∷ ys) zero d e h k = h.0
 zip_at R (x ∷ xs) (y ∷ ys) (suc i) d e h k = zip_at R xs ys i d e h.1 (omega arith)
 
+-- the rings of a drawn region, as they are told, have the region on their left
+told_left : (IsHeld : Spot → Type 0) (arcs : List (List Point)) → All (λ arc. 2 ≤ length arc) arcs → (rings : List (List ℤ)) → All (IsDrawnRing arcs) rings → All (λ ring. IsLeftRound IsHeld (points_round arcs ring)) rings
+    → All (IsLeftPath IsHeld) (map (closed_path arcs) rings)
+told_left IsHeld arcs long [] drawn left = All-nil (IsLeftPath IsHeld)
+told_left IsHeld arcs long (ring ∷ rings) drawn left =
+    let is = All-head (IsDrawnRing arcs) ring rings drawn in
+    let closed = closed_at arcs long ring (recursion_from_All (IsIndex arcs) ring is.in_range) (record { some = is.some; in_range = is.in_range; closed = is.closed }) in
+    let round = closed_round IsHeld (points_round arcs ring) closed.begin closed.first (All-head (λ r. IsLeftRound IsHeld (points_round arcs r)) ring rings left) in
+    All-cons (IsLeftPath IsHeld) (closed_path arcs ring) (map (closed_path arcs) rings) (subst (IsLeftPath IsHeld) (sym closed.is) round)
+    (told_left IsHeld arcs long rings (All-tail (IsDrawnRing arcs) ring rings drawn) (All-tail (λ r. IsLeftRound IsHeld (points_round arcs r)) ring rings left))
+
 pub drawn_map : (c : Checked) (g : Grouping) (names : List (List ℕ)) (regions : Regions) (frame : Frame) (text : List ℕ) → IsChecked c.areas
     → IsDrawingOf (odds_of c.areas) g names regions → text ≡ map_text regions frame → SpellsDrawn text regions frame
     → IsDrawnMap (odds_of c.areas) g names frame text
@@ -119,4 +138,13 @@ drawn_map c g names regions frame text checked drawing layout spells =
           (rising_lists c.areas checked.parts) checked.disjoint
           (drawing.each r no_shape (subst (λ n. r < n) (sym long ∙ drawing.count) h))
           (zip_at (IsAreaOf regions.arcs) regions.shapes spells.areas r no_shape (record { class = []; steps = [] }) spells.are h);
+      left = λ r geometry h.
+          let shape = get_or regions.shapes r no_shape in
+          let known : r < length regions.shapes = omega (arith, h, long) in
+          let right = drawing.each r no_shape (subst (λ n. r < n) (sym long ∙ drawing.count) h) in
+          record {
+            rings = map (closed_path regions.arcs) (rings_in shape.polygons);
+            told = zip_at (λ place s. SpellsRings spells.topology.arcs place (map (closed_path regions.arcs) (rings_in s.polygons))) spells.topology.places regions.shapes r geometry no_shape spells.rings known;
+            left = told_left (IsHeldBy (odds_of c.areas) (region g) r) regions.arcs drawing.stored.long (rings_in shape.polygons) right.rings right.left;
+          };
     }

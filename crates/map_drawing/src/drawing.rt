@@ -13,8 +13,9 @@ use topo_writer::text;
 /// The map of a grouping as a text of TopoJSON, whose object `regions` has one geometry for each region, in order.
 ///
 /// A region is drawn as the exact union of its areas: for every rational point, the drawn region holds it exactly where an area of the region
-/// does. Each border stands once, and is used by the regions on both of its sides. The frame has the same characters as that of the map, and
-/// each region has the name of its class as its property `class`. Its one refusal is want of memory.
+/// does. At each step of its rings, as the text tells them, the region is on the left. Each border stands once, and is used by the regions on
+/// both of its sides. The frame has the same characters as that of the map, and each region has the name of its class as its property `class`.
+/// Its one refusal is want of memory.
 pub fn draw(
     alloc: Global,
     checked: &Checked,

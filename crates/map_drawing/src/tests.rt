@@ -5,6 +5,7 @@ ghost use Rattle.map_values.specs.Frames.{IsNumberFrame};
 ghost use Rattle.map_drawing.specs.Drawn.{IsDrawable};
 
 use crate::draw;
+use agg_base::limits::AREAS;
 use agg_base::{NoMemory, Text};
 use agg_model::Grouping;
 use coverage_check::{Checked, check};
@@ -157,7 +158,7 @@ fn is_drawable(checked: &Checked, grouping: &Grouping, names: &[Text]) -> bool
     let classes = are_classes_below(&grouping.class_of, names.len());
     let named = are_class_names(names);
     let numbers = is_number_frame(checked.frame());
-    one_each && regions <= 65_536 && in_range && classes && named && numbers
+    one_each && regions <= AREAS && in_range && classes && named && numbers
 }
 
 // Tries that the map of regions of areas is this text, where the classes have the names `1`, `2` and `a`.

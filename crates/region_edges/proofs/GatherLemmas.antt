@@ -40,7 +40,7 @@ gathered_parity odds region r (suc n) f test h = go (region n == r) (gathered_pa
     go false rest = let none : count_by f [] ≡ 0 = refl in omega (arith, count-append f before [])
 
 -- in a rising list an edge stands once or not at all
-any_or_none : (e : Edge) (es : List Edge) → ((list_any (λ f. is_same_edge e f) es ≡ true) × (0 < occurrences e es)) ⊎ ((list_any (λ f. is_same_edge e f) es ≡ false) × (occurrences e es ≡ 0))
+pub any_or_none : (e : Edge) (es : List Edge) → ((list_any (λ f. is_same_edge e f) es ≡ true) × (0 < occurrences e es)) ⊎ ((list_any (λ f. is_same_edge e f) es ≡ false) × (occurrences e es ≡ 0))
 any_or_none e [] = inr (refl, refl)
 any_or_none e (f ∷ es) = go (is_same_edge e f) refl (any_or_none e es)
   where

@@ -2,3 +2,4 @@ pub mod CountLemmas
 pub mod GatherLemmas
 pub mod SweepLemmas
 pub mod PointLemmas
+pub mod MeetLemmas

@@ -30,16 +30,12 @@ pub struct Arcs {
 }
 
 // Appends the arcs that the chains are stored as.
-fn push_stored(
-    arcs: &mut Vec<Vec<Point>>,
-    alloc: Global,
-    chains: &[Vec<Point>],
-) -> Result<(), NoMemory>
-    requires { All (λ chain. 2 ≤ length chain.items) chains.now }
-    ensures { OnOk result (lists_of arcs.new.items ≡ lists_of arcs.old.items ++ map arc_of (lists_of chains.now)) }
+fn push_stored(arcs: &mut Vec<Vec<Point>>, chains: Vec<Vec<Point>>) -> Result<(), NoMemory>
+    requires { All (λ chain. 2 ≤ length chain.items) chains.items }
+    ensures { OnOk result (lists_of arcs.new.items ≡ lists_of arcs.old.items ++ map arc_of (lists_of chains.items)) }
 {
     for chain in chains {
-        arcs.push(arc_of(alloc, chain)?)?;
+        arcs.push(arc_of(chain))?;
     }
     Ok(())
 }
@@ -57,7 +53,7 @@ fn push_arcs(
     ensures { OnOk result (AddsArcs breaks.now.ways.items breaks.now.loops.items ring.now (lists_of arcs.old.items) (lists_of arcs.new.items)) }
 {
     let chains = chains_of(alloc, breaks, ring)?;
-    push_stored(arcs, alloc, &chains)
+    push_stored(arcs, chains)
 }
 
 // The arcs of all rings, ring by ring.

@@ -19,17 +19,17 @@ use plane_edge::Point;
 use std::alloc::Global;
 
 // The number of the arc that the chain is stored as.
-fn number_in(alloc: Global, arcs: &[Vec<Point>], chain: &[Point]) -> Result<usize, NoMemory>
+fn number_in(arcs: &[Vec<Point>], chain: Vec<Point>) -> usize
     requires rising { IsStrictlySortedBy (slice_cmp point_order) (lists_of arcs.now) }
-    requires stored { IsStoredIn (lists_of arcs.now) chain.now }
-    ensures within { IfOk result (λ i. i < length arcs.now) }
-    ensures found { IfOk result (λ i. get_or (lists_of arcs.now) i [] ≡ arc_of chain.now) }
+    requires stored { IsStoredIn (lists_of arcs.now) chain.items }
+    ensures within { result < length arcs.now }
+    ensures found { get_or (lists_of arcs.now) result [] ≡ arc_of chain.items }
 {
-    let arc = arc_of(alloc, chain)?;
+    let arc = arc_of(chain);
     let Ok(number) = arcs.binary_search(&arc) else {
         unreachable!()
     };
-    Ok(number)
+    number
 }
 
 // The index that tells the arc of that number.
@@ -49,17 +49,18 @@ fn index_backwards(number: usize) -> i64
 }
 
 // The index of the arc that the chain is stored as.
-fn index_of(alloc: Global, arcs: &[Vec<Point>], chain: &[Point]) -> Result<i64, NoMemory>
+fn index_of(arcs: &[Vec<Point>], chain: Vec<Point>) -> i64
     requires rising { IsStrictlySortedBy (slice_cmp point_order) (lists_of arcs.now) }
-    requires stored { IsStoredIn (lists_of arcs.now) chain.now }
-    ensures in_range { IfOk result (λ i. IsIndex (lists_of arcs.now) i) }
-    ensures told { IfOk result (λ i. arc_at (lists_of arcs.now) i ≡ chain.now) }
+    requires stored { IsStoredIn (lists_of arcs.now) chain.items }
+    ensures in_range { IsIndex (lists_of arcs.now) result }
+    ensures told { arc_at (lists_of arcs.now) result ≡ chain.items }
 {
-    let number = number_in(alloc, arcs, chain)?;
-    if is_backward(chain) {
-        Ok(index_backwards(number))
+    let backward = is_backward(&chain);
+    let number = number_in(arcs, chain);
+    if backward {
+        index_backwards(number)
     } else {
-        Ok(index_forwards(number))
+        index_forwards(number)
     }
 }
 
@@ -96,16 +97,16 @@ fn least_at(indexes: &[i64]) -> usize
 fn indexes_of_chains(
     alloc: Global,
     arcs: &[Vec<Point>],
-    chains: &[Vec<Point>],
+    chains: Vec<Vec<Point>>,
 ) -> Result<Vec<i64>, NoMemory>
     requires rising { IsStrictlySortedBy (slice_cmp point_order) (lists_of arcs.now) }
-    requires stored { All (λ chain. IsStoredIn (lists_of arcs.now) chain.items) chains.now }
+    requires stored { All (λ chain. IsStoredIn (lists_of arcs.now) chain.items) chains.items }
     ensures in_range { IfOk result (λ indexes. All (IsIndex (lists_of arcs.now)) indexes.items) }
-    ensures told { IfOk result (λ indexes. map (arc_at (lists_of arcs.now)) indexes.items ≡ lists_of chains.now) }
+    ensures told { IfOk result (λ indexes. map (arc_at (lists_of arcs.now)) indexes.items ≡ lists_of chains.items) }
 {
     let mut indexes = Vec::new(alloc);
     for chain in chains {
-        indexes.push(index_of(alloc, arcs, chain)?)?;
+        indexes.push(index_of(arcs, chain))?;
     }
     Ok(indexes)
 }
@@ -125,7 +126,7 @@ pub fn indexes_of(
     ensures { IfOk result (λ indexes. AreIndexesOf (lists_of arcs.now) ring.now indexes.items) }
 {
     let chains = chains_of(alloc, breaks, ring)?;
-    let mut indexes = indexes_of_chains(alloc, arcs, &chains)?;
+    let mut indexes = indexes_of_chains(alloc, arcs, chains)?;
     let least = least_at(&indexes);
     indexes.rotate_left(least);
     Ok(indexes)

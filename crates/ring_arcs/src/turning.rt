@@ -1,13 +1,11 @@
 // Which way a chain is stored.
-ghost use Rattle.std.specs.Prelude.{◌≡◌, ◌≤◌, length, IfOk};
+ghost use Rattle.std.specs.Prelude.{◌≡◌, ◌≤◌, length};
 ghost use Rattle.plane_edge.specs.Edges.{is_same_point};
 ghost use Rattle.plane_edge.specs.Order.{is_below};
 ghost use Rattle.plane_edge.specs.declared.point.Point.{Point};
 ghost use Rattle.ring_arcs.specs.Turning.{is_backward, arc_of};
 
-use agg_base::NoMemory;
 use plane_edge::Point;
-use std::alloc::Global;
 
 /// Whether the points are the same.
 pub fn is_same(one: &Point, other: &Point) -> bool
@@ -39,13 +37,14 @@ pub fn is_backward(chain: &[Point]) -> bool
 
 /// The chain as it is stored: from its lesser end; where both ends are one point, first to the
 /// lesser of the two next points.
-pub fn arc_of(alloc: Global, chain: &[Point]) -> Result<Vec<Point>, NoMemory>
-    requires { 2 ≤ length chain.now }
-    ensures { IfOk result (λ arc. arc.items ≡ arc_of chain.now) }
+pub fn arc_of(chain: Vec<Point>) -> Vec<Point>
+    requires { 2 ≤ length chain.items }
+    ensures { result.items ≡ arc_of chain.items }
 {
-    let mut arc = Vec::from_slice(alloc, chain)?;
-    if is_backward(chain) {
+    let backward = is_backward(&chain);
+    let mut arc = chain;
+    if backward {
         arc.reverse();
     }
-    Ok(arc)
+    arc
 }

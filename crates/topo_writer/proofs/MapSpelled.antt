@@ -13,10 +13,12 @@ use Rattle.topo_writer.proofs.MapAreas.{areas_of}
 pub map_is_spelled : (regions : Regions) (frame : Frame) → IsWritable regions frame → length regions.arcs < 2 ^ 64 → All (λ (shape : Shape). IsUtf8 shape.class) regions.shapes → SpellsDrawn (map_text regions frame) regions frame
 map_is_spelled regions frame is few utf8 =
     let areas = areas_of regions.arcs regions.shapes in
+    let spelled = tree_spells regions frame is few areas.0 areas.1 in
     record {
       tree = tree_of regions frame;
       areas = areas.0;
       are = areas.1;
       text = tree_is_spelled regions frame is few utf8;
-      topology = tree_spells regions frame is few areas.0 areas.1;
+      topology = spelled.topology;
+      rings = spelled.rings;
     }

@@ -4,7 +4,7 @@ use Rattle.std.specs.Prelude.{codes}
 use Rattle.std.specs.List.{AllByRecursion, AllZip, filter}
 use Rattle.std.specs.Fmt.{signed_decimal}
 use Rattle.std.proofs.lemmas.Int.{ints}
-use Rattle.std.proofs.lemmas.List.{length-map}
+use Rattle.std.proofs.lemmas.List.{length-map, map-append}
 use Rattle.std.proofs.lemmas.List.Elements.{recursion_from_All}
 use Rattle.std.proofs.lemmas.List.Sums.{sum_by-cons}
 use Rattle.std.proofs.lemmas.Grind.{flat_map-append}
@@ -14,15 +14,18 @@ use Rattle.plane_edge.specs.declared.frame.Frame.{Frame}
 use Rattle.plane_edge.specs.declared.frame.Frame.TheVariants.{Plain, Scaled}
 use Rattle.plane_edge.specs.declared.point.Point.{Point}
 use Rattle.ring_arcs.specs.RingArcs.{IsIndex, arc_at}
-use Rattle.topo_reader.specs.Arcs.{is_relative, SpellsFrame, SpellsPosition, SpellPoints, SpellsArc}
+use Rattle.topo_reader.specs.Arcs.{is_relative, SpellsFrame, SpellPoints, SpellsArc}
 use Rattle.topo_reader.specs.Rings.{SpellsPath, SpellsRing, SpellsPolygon, polygons}
 use Rattle.plane_edge.specs.Paths.{points_along}
-use Rattle.topo_reader.specs.Topology.{by_text, is_passed, SpellsArea, collection, SpellsTopology}
+use Rattle.map_values.specs.Positions.{SpellsPosition}
+use Rattle.map_values.specs.Classes.{by_text}
+use Rattle.topo_reader.specs.Topology.{is_passed, SpellsArea, collection, SpellsTopology}
 use Rattle.arc_dissolve.specs.Drawing.{rings_in, steps_of}
 use Rattle.arc_dissolve.specs.Rings.{points_round}
 use Rattle.arc_dissolve.specs.Shapes.{Shape, Regions}
 use Rattle.topo_writer.specs.MapText.{step_to, steps_from, positions_of}
-use Rattle.topo_writer.specs.Drawing.{IsClosedRing, IsWritableClass, IsWritable, IsAreaOf}
+use Rattle.topo_writer.specs.Drawing.{IsClosedRing, IsWritableClass, IsWritable, IsAreaOf, closed_path}
+use Rattle.topo_reader.specs.Rings.{SpellsRings}
 use Rattle.topo_writer.proofs.Numerals.{spells_whole}
 use Rattle.topo_writer.proofs.MapTree.{number, position_tree, arc_tree, ring_tree, polygon_tree, geometry_tree, geometry_trees, collection_of, objects_of, transform_of, tree_of}
 use Rattle.topo_writer.proofs.RingPoints.{path_is, ring_steps}
@@ -172,12 +175,14 @@ area_spelled : (arcs : List (List Point)) → length arcs < 2 ^ 64 → All (λ a
 area_spelled arcs few long region shape class closed area is =
     let parts = closed_parts arcs shape closed in
     record {
-      properties = object ((codes "class", Str shape.class) ∷ []);
-      value = Str shape.class;
       rings = outlines_of arcs shape;
-      properties_are = refl;
-      value_is = refl;
-      class_is = by_text (ap Str (sym is.class_is)) (subst (λ c. 1 ≤ length c) (sym is.class_is) class.some) (subst (λ c. length c ≤ 100) (sym is.class_is) class.few);
+      class_is = record {
+        properties = object ((codes "class", Str shape.class) ∷ []);
+        value = Str shape.class;
+        properties_are = refl;
+        value_is = refl;
+        class_is = by_text (ap Str (sym is.class_is)) (subst (λ c. 1 ≤ length c) (sym is.class_is) class.some) (subst (λ c. length c ≤ 100) (sym is.class_is) class.few);
+      };
       rings_are = polygons (map polygon_tree shape.polygons) (map (λ polygon. map (points_of arcs) polygon) shape.polygons) refl refl (polygons_spelled arcs few shape.polygons parts) refl;
       steps_are = is.steps_are ∙ sym (polygon_steps_of arcs long shape.polygons parts);
     }
@@ -209,35 +214,61 @@ step_count_is arcs (shape ∷ shapes) (area ∷ areas) are =
     ∙ ap₂ (λ m n. m + n) (sym (length-map area.steps ends_of) ∙ ap length are.0.steps_are) (step_count_is arcs shapes areas are.1)
     ∙ sym (sum_by-cons (λ shape. length (steps_of arcs shape)) shape shapes)
 
+-- ---- the rings of all geometries
+
+-- the closed paths of all rings, and those polygon by polygon
+paths_in : (arcs : List (List Point)) (parts : List (List (List ℤ))) → map (closed_path arcs) (rings_in parts) ≡ flat_map (λ rings. rings) (map (λ polygon. map (closed_path arcs) polygon) parts)
+paths_in arcs [] = refl
+paths_in arcs (polygon ∷ parts) = map-append (closed_path arcs) polygon (rings_in parts) ∙ ap (λ paths. map (closed_path arcs) polygon ++ paths) (paths_in arcs parts)
+
+shape_rings_spelled : (arcs : List (List Point)) → length arcs < 2 ^ 64 → (region : ℕ) (shape : Shape) → AreClosed arcs shape → SpellsRings arcs (geometry_tree region shape) (map (closed_path arcs) (rings_in shape.polygons))
+shape_rings_spelled arcs few region shape closed =
+    polygons (map polygon_tree shape.polygons) (map (λ polygon. map (closed_path arcs) polygon) shape.polygons) refl refl (polygons_spelled arcs few shape.polygons (closed_parts arcs shape closed)) (paths_in arcs shape.polygons)
+
+shapes_rings_spelled : (arcs : List (List Point)) → length arcs < 2 ^ 64 → (region : ℕ) (shapes : List Shape) → AllByRecursion (AreClosed arcs) shapes
+    → AllZip (λ geometry shape. SpellsRings arcs geometry (map (closed_path arcs) (rings_in shape.polygons))) (geometry_trees region shapes) shapes
+shapes_rings_spelled arcs few region [] closed = tt
+shapes_rings_spelled arcs few region (shape ∷ shapes) closed = (shape_rings_spelled arcs few region shape closed.0, shapes_rings_spelled arcs few (region + 1) shapes closed.1)
+
+-- ---- the whole tree
+
+-- a topology of these areas, whose geometries spell the rings of the drawn regions
+pub record SpellsWithRings (tree : Json) (regions : Regions) (frame : Frame) (areas : List Area) : Type 0 where
+  pub topology : SpellsTopology tree (codes "class") (Some (codes "regions")) (record { areas = areas; passed = 0; frame = frame })
+  pub rings : AllZip (λ geometry shape. SpellsRings topology.arcs geometry (map (closed_path regions.arcs) (rings_in shape.polygons))) topology.places regions.shapes
+
 spelled_by : (regions : Regions) (frame : Frame) → IsWritable regions frame → length regions.arcs < 2 ^ 64 → (areas : List Area) → AllZip (IsAreaOf regions.arcs) regions.shapes areas
     → (tree : Json) → member_of tree (codes "type") ≡ Some (Str (codes "Topology")) → SpellsFrame tree frame
     → member_of tree (codes "objects") ≡ Some (objects_of (array (geometry_trees 0 regions.shapes))) → member_of tree (codes "arcs") ≡ Some (array (map (arc_tree (is_relative frame)) regions.arcs))
-    → SpellsTopology tree (codes "class") (Some (codes "regions")) (record { areas = areas; passed = 0; frame = frame })
+    → SpellsWithRings tree regions frame areas
 spelled_by regions frame is few areas are tree type_is frame_is objects_are parts_are =
     let shapes = regions.shapes in
     let classes = recursion_from_All (λ (shape : Shape). IsWritableClass shape.class) shapes is.classes in
     let closed = recursion_from_All (AreClosed regions.arcs) shapes is.rings in
     record {
-      objects = objects_of (array (geometry_trees 0 shapes));
-      picked = collection_of (array (geometry_trees 0 shapes));
-      places = geometry_trees 0 shapes;
-      parts = map (arc_tree (is_relative frame)) regions.arcs;
-      arcs = regions.arcs;
-      type_is = type_is;
-      frame_is = frame_is;
-      objects_are = objects_are;
-      picked_is = refl;
-      parts_are = parts_are;
-      arcs_are = arcs_spelled (is_relative frame) regions.arcs (recursion_from_All (λ arc. 2 ≤ length arc) regions.arcs is.long);
-      places_are = collection refl refl;
-      areas_are = areas_spelled regions.arcs few is.long 0 shapes classes closed areas are;
-      passed_is = none_passed 0 shapes;
-      few_areas = omega (arith, count_is regions.arcs shapes areas are, is.few_shapes);
-      few_steps = omega (arith, step_count_is regions.arcs shapes areas are, is.few_steps);
+      topology = record {
+        objects = objects_of (array (geometry_trees 0 shapes));
+        picked = collection_of (array (geometry_trees 0 shapes));
+        places = geometry_trees 0 shapes;
+        parts = map (arc_tree (is_relative frame)) regions.arcs;
+        arcs = regions.arcs;
+        type_is = type_is;
+        frame_is = frame_is;
+        objects_are = objects_are;
+        picked_is = refl;
+        parts_are = parts_are;
+        arcs_are = arcs_spelled (is_relative frame) regions.arcs (recursion_from_All (λ arc. 2 ≤ length arc) regions.arcs is.long);
+        places_are = collection refl refl;
+        areas_are = areas_spelled regions.arcs few is.long 0 shapes classes closed areas are;
+        passed_is = none_passed 0 shapes;
+        few_areas = omega (arith, count_is regions.arcs shapes areas are, is.few_shapes);
+        few_steps = omega (arith, step_count_is regions.arcs shapes areas are, is.few_steps);
+      };
+      rings = shapes_rings_spelled regions.arcs few 0 shapes closed;
     }
 
 pub tree_spells : (regions : Regions) (frame : Frame) → IsWritable regions frame → length regions.arcs < 2 ^ 64 → (areas : List Area) → AllZip (IsAreaOf regions.arcs) regions.shapes areas
-    → SpellsTopology (tree_of regions frame) (codes "class") (Some (codes "regions")) (record { areas = areas; passed = 0; frame = frame })
+    → SpellsWithRings (tree_of regions frame) regions frame areas
 tree_spells regions Plain is few areas are = spelled_by regions Plain is few areas are (tree_of regions Plain) refl refl refl refl
 tree_spells regions (Scaled sx sy tx ty) is few areas are =
     spelled_by regions (Scaled sx sy tx ty) is few areas are (tree_of regions (Scaled sx sy tx ty)) refl (transform_of sx sy tx ty, refl, record { scale = refl; translate = refl }) refl refl

@@ -11,7 +11,7 @@ use Rattle.ring_arcs.specs.RingArcs as ring
 use Rattle.topo_reader.specs.Rings.{path_of}
 use Rattle.plane_edge.specs.Paths.{first_of, last_of, AreJoined, points_along}
 use Rattle.arc_dissolve.specs.Rings.{points_round}
-use Rattle.topo_writer.specs.Drawing.{IsClosedRing}
+use Rattle.topo_writer.specs.Drawing.{IsClosedRing, closed_path}
 
 -- ---- one path
 
@@ -124,12 +124,30 @@ long_paths : (arcs : List (List Point)) → All (λ arc. 2 ≤ length arc) arcs 
 long_paths arcs long [] is = tt
 long_paths arcs long (i ∷ indexes) is = (long_path arcs long i is.0, long_paths arcs long indexes is.1)
 
+some_path : (arcs : List (List Point)) (indexes : List ℤ) → 0 < length indexes → 0 < length (map (ring.arc_at arcs) indexes)
+some_path arcs [] h = absurd (omega arith)
+some_path arcs (i ∷ is) h = omega arith
+
 -- the ring's steps, told either way
 pub ring_steps : (arcs : List (List Point)) → All (λ arc. 2 ≤ length arc) arcs → (indexes : List ℤ) → AllByRecursion (ring.IsIndex arcs) indexes → (closed : IsClosedRing arcs indexes)
     → steps_of_ring (points_along (map (ring.arc_at arcs) indexes)) ≡ steps_of_ring (points_round arcs indexes)
 ring_steps arcs long indexes in_range closed =
-    joined_steps closed.closed.0 (map (ring.arc_at arcs) indexes) (some indexes closed.some) (long_paths arcs long indexes in_range) closed.closed.1
-  where
-    some : (indexes : List ℤ) → 0 < length indexes → 0 < length (map (ring.arc_at arcs) indexes)
-    some [] h = absurd (omega arith)
-    some (i ∷ is) h = omega arith
+    joined_steps closed.closed.0 (map (ring.arc_at arcs) indexes) (some_path arcs indexes closed.some) (long_paths arcs long indexes in_range) closed.closed.1
+
+-- the ring's points and its first point again
+pub record IsClosedAt (arcs : List (List Point)) (indexes : List ℤ) : Type 0 where
+  pub begin : Point
+  pub first : first_of (points_round arcs indexes) ≡ Some begin
+  pub is : closed_path arcs indexes ≡ points_round arcs indexes ++ begin ∷ []
+
+pub closed_at : (arcs : List (List Point)) → All (λ arc. 2 ≤ length arc) arcs → (indexes : List ℤ) → AllByRecursion (ring.IsIndex arcs) indexes → IsClosedRing arcs indexes → IsClosedAt arcs indexes
+closed_at arcs long indexes in_range closed =
+    let b = closed.closed.0 in
+    let paths = map (ring.arc_at arcs) indexes in
+    let any = some_path arcs indexes closed.some in
+    let two = long_paths arcs long indexes in_range in
+    record {
+      begin = b;
+      first = first_begins b (Some b) paths any two closed.closed.1;
+      is = joined_is b b paths any (weaker paths two) closed.closed.1;
+    }

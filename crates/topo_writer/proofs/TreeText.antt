@@ -9,6 +9,7 @@ use Rattle.std.proofs.lemmas.Bool.{and_parts, ltb-true}
 use Rattle.std.proofs.lemmas.Int.{ints}
 use Rattle.std.proofs.lemmas.List.Elements.{recursion_from_All}
 use Rattle.std.proofs.lemmas.Str.{IsUtf8-from_ascii}
+use Rattle.agg_base.specs.declared.limits.TheConstants.{AREAS}
 use Rattle.json_text.specs.Numbers.{IsJsonNumber}
 use Rattle.json_text.specs.Tree.{Json, items_of}
 use Rattle.json_text.specs.Spelling.{Spells}
@@ -116,7 +117,7 @@ each_part P (list ∷ lists) h = let parts = parted P list (flat_map (λ list. l
 pub closed_parts : (arcs : List (List Point)) (shape : Shape) → AreClosed arcs shape → AllByRecursion (AllByRecursion (IsClosedRing arcs)) shape.polygons
 closed_parts arcs shape closed = each_part (IsClosedRing arcs) shape.polygons (recursion_from_All (IsClosedRing arcs) (rings_in shape.polygons) closed)
 
-plain_geometry : (arcs : List (List Point)) → length arcs < 2 ^ 64 → (region : ℕ) → region < 65536 → (shape : Shape) → IsGoodClass shape.class → AreClosed arcs shape → IsPlainTree (geometry_tree region shape)
+plain_geometry : (arcs : List (List Point)) → length arcs < 2 ^ 64 → (region : ℕ) → region < AREAS → (shape : Shape) → IsGoodClass shape.class → AreClosed arcs shape → IsPlainTree (geometry_tree region shape)
 plain_geometry arcs few region small shape class closed =
     let polygons = listed (AllByRecursion (IsClosedRing arcs)) polygon_tree (plain_polygon arcs few) shape.polygons (closed_parts arcs shape closed) in
     let id : IsJsonNumber (decimal region) = is_number (pos region) (record { sfits = omega arith }) in
@@ -134,7 +135,7 @@ plain_geometry arcs few region small shape class closed =
       ),
     )
 
-plain_geometries : (arcs : List (List Point)) → length arcs < 2 ^ 64 → (region : ℕ) (shapes : List Shape) → region + length shapes ≤ 65536
+plain_geometries : (arcs : List (List Point)) → length arcs < 2 ^ 64 → (region : ℕ) (shapes : List Shape) → region + length shapes ≤ AREAS
     → AllByRecursion (λ shape. IsGoodClass shape.class) shapes → AllByRecursion (AreClosed arcs) shapes → ArePlainItems (items_of (geometry_trees region shapes))
 plain_geometries arcs few region [] count classes closed = tt
 plain_geometries arcs few region (shape ∷ shapes) count classes closed =

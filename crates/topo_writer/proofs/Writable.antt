@@ -1,5 +1,6 @@
 -- What is drawn may be written.
 use Rattle.std.proofs.Common.{ℕ, ◌<◌, ◌≤◌, List, [], length, All, sym, subst, arith}
+use Rattle.agg_base.specs.declared.limits.TheConstants.{AREAS}
 use Rattle.agg_model.specs.Problem.{Grouping, class_in}
 use Rattle.plane_edge.specs.declared.edge.Edge.{Edge}
 use Rattle.plane_edge.specs.declared.frame.Frame.{Frame}
@@ -10,7 +11,7 @@ use Rattle.map_values.specs.Frames.{IsNumberFrame}
 
 -- the map of a grouping, where its regions are few, and the frame and the names may be written
 pub drawing_is_writable : (odds : List (List Edge)) (groups : Grouping) (names : List (List ℕ)) (regions : Regions) (frame : Frame) → IsDrawingOf odds groups names regions
-    → IsNumberFrame frame → All IsWritableClass names → length groups.class_of ≤ 65536 → ((r : ℕ) → r < length groups.class_of → class_in groups r < length names) → IsWritable regions frame
+    → IsNumberFrame frame → All IsWritableClass names → length groups.class_of ≤ AREAS → ((r : ℕ) → r < length groups.class_of → class_in groups r < length names) → IsWritable regions frame
 drawing_is_writable odds groups names regions frame drawing frame_is good few in_range = record {
   frame_is = frame_is;
   few_shapes = omega (arith, drawing.count);

@@ -5,10 +5,12 @@ use Rattle.map_values.specs.Frames.{IsNumberFrame}
 use Rattle.agg_base.specs.declared.limits.TheConstants.{AREAS, STEPS}
 use Rattle.json_text.specs.Tree.{Json}
 use Rattle.json_text.specs.Spelling.{Spells}
+use Rattle.plane_edge.specs.Paths.{points_along}
 use Rattle.plane_edge.specs.Rings.{Area, ends_of}
 use Rattle.plane_edge.specs.declared.frame.Frame.{Frame}
 use Rattle.plane_edge.specs.declared.point.Point.{Point}
-use Rattle.ring_arcs.specs.RingArcs.{IsIndex}
+use Rattle.ring_arcs.specs.RingArcs.{arc_at, IsIndex}
+use Rattle.topo_reader.specs.Rings.{SpellsRings}
 use Rattle.topo_reader.specs.Topology.{SpellsTopology}
 use Rattle.arc_dissolve.specs.Drawing.{rings_in, steps_of}
 use Rattle.arc_dissolve.specs.Rings.{IsClosedWalk}
@@ -40,10 +42,16 @@ pub record IsAreaOf (arcs : List (List Point)) (shape : Shape) (area : Area) : T
   pub class_is : area.class ≡ shape.class
   pub steps_are : map ends_of area.steps ≡ steps_of arcs shape
 
+-- the points of the ring, arc after arc, each but the first without its first point: so the ring's first point stands at the end again
+abbrev pub closed_path : List (List Point) → List ℤ → List Point
+closed_path arcs ring = points_along (map (arc_at arcs) ring)
+
 -- The bytes are a topology whose object `regions` has the drawn regions in order as its areas, with their properties `class` as class texts, passes over none, and has the frame.
+-- Its geometries in order spell the rings of the drawn regions, polygon by polygon, as closed paths.
 pub record SpellsDrawn (bytes : List ℕ) (regions : Regions) (frame : Frame) : Type 0 where
   pub tree : Json
   pub areas : List Area
   pub are : AllZip (IsAreaOf regions.arcs) regions.shapes areas
   pub text : Spells bytes tree
   pub topology : SpellsTopology tree (codes "class") (Some (codes "regions")) (record { areas = areas; passed = 0; frame = frame })
+  pub rings : AllZip (λ geometry shape. SpellsRings topology.arcs geometry (map (closed_path regions.arcs) (rings_in shape.polygons))) topology.places regions.shapes

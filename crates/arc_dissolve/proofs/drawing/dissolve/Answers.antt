@@ -1,5 +1,6 @@
 use Rattle.std.proofs.Common.{◌≡◌, ◌≤◌, length, map, sum, All, sym, ap, subst, ◌∙◌, arith}
 use Rattle.std.proofs.lemmas.List.{length-map}
+use Rattle.agg_base.specs.declared.limits.TheConstants.{STEPS}
 use Rattle.plane_edge.specs.Edges.{HaveEvenEnds, IsRisingEdges}
 use Rattle.coverage_check.specs.Kept.{odds_of}
 use Rattle.region_rings.specs.RegionRings.{AreRingsOf}
@@ -25,11 +26,11 @@ all_rings-requires-clause-even c =
 
 pub all_rings-requires-clause-few : goal.all_rings-requires-clause-few
 all_rings-requires-clause-few c =
-    subst (λ bs. All (λ v. length v.items ≤ 2097152) bs) (sym c.deref.ensures.value) (borders_few 2097152 c.in_ok-borders.borders.items c.in_ok-borders.ensures.few)
+    subst (λ bs. All (λ v. length v.items ≤ STEPS) bs) (sym c.deref.ensures.value) (borders_few STEPS c.in_ok-borders.borders.items c.in_ok-borders.ensures.few)
 
 pub arcs_of-requires : goal.arcs_of-requires
 arcs_of-requires c =
-    let z = rw c.deref.ensures.value at c.in_ok-all_rings.ensures in
+    let z = rw c.deref.ensures.value at c.in_ok-all_rings.ensures.rings in
     let all = cycles (lists_of c.in_ok-borders.borders.items) (nested_of c.in_ok-all_rings.field-0.items) c.in_ok-groups.groups.rings.items z c.in_ok-groups.ensures.rings in
     record { rings = subst (λ rs. All (λ v. IsRing v.items) rs) (sym c.deref-2.ensures.value) all }
 
@@ -38,7 +39,7 @@ shapes_of-requires-clause-rings c =
     let rings = nested_of c.in_ok-all_rings.field-0.items in
     let arcs = lists_of c.in_ok-drawn.drawn.arcs.items in
     let indexes = c.in_ok-drawn.drawn.rings.items in
-    let z = rw c.deref.ensures.value at c.in_ok-all_rings.ensures in
+    let z = rw c.deref.ensures.value at c.in_ok-all_rings.ensures.rings in
     let i : AreIndexed (one_list rings) arcs (lists_of indexes) = subst (λ rs. AreIndexed rs arcs (lists_of indexes)) c.in_ok-groups.ensures.rings (subst (λ rs. AreIndexed (lists_of rs) arcs (lists_of indexes)) c.deref-2.ensures.value c.in_ok-drawn.ensures.indexed) in
     let all = drawn_rings (lists_of c.in_ok-borders.borders.items) rings arcs indexes z i in
     subst (λ os. All (λ v. IsDrawnRing (lists_of os) v.items) c.deref-4.result.now) (sym c.deref-3.ensures.value) (subst (λ is. All (λ v. IsDrawnRing arcs v.items) is) (sym c.deref-4.ensures.value) all)
@@ -57,7 +58,7 @@ pub shapes_of-requires-clause-one_each : goal.shapes_of-requires-clause-one_each
 shapes_of-requires-clause-one_each c =
     let borders = c.in_ok-borders.borders.items in
     let rings = nested_of c.in_ok-all_rings.field-0.items in
-    let z = rw c.deref.ensures.value at c.in_ok-all_rings.ensures in
+    let z = rw c.deref.ensures.value at c.in_ok-all_rings.ensures.rings in
     let counts : length c.deref-5.result.now ≡ length rings = ap length (c.deref-5.ensures.value ∙ c.in_ok-groups.ensures.counts) ∙ length-map rings (λ g. length g) in
     let same : length (lists_of borders) ≡ length rings = zip_length AreRingsOf (lists_of borders) rings z in
     let classes : length c.deref-6.result.now ≡ length c.args.grouping.now.class_of = ap length c.deref-6.ensures.value ∙ ap (λ g. length g.class_of) c.grouping.view_is in
@@ -73,7 +74,8 @@ returns c =
     let arcs = lists_of c.in_ok-drawn.drawn.arcs.items in
     let indexes = lists_of c.in_ok-drawn.drawn.rings.items in
     let shapes = c.in_ok-shapes.shapes.items in
-    let z = rw c.deref.ensures.value at c.in_ok-all_rings.ensures in
+    let z = rw c.deref.ensures.value at c.in_ok-all_rings.ensures.rings in
+    let left = rw c.deref.ensures.value at c.in_ok-all_rings.ensures.left in
     let flat = c.in_ok-groups.ensures.rings in
     let a : AreArcsOf (one_list rings) arcs = subst (λ rs. AreArcsOf rs arcs) flat (subst (λ rs. AreArcsOf (lists_of rs) arcs) c.deref-2.ensures.value c.in_ok-drawn.ensures.arcs) in
     let i : AreIndexed (one_list rings) arcs indexes = subst (λ rs. AreIndexed rs arcs indexes) flat (subst (λ rs. AreIndexed (lists_of rs) arcs indexes) c.deref-2.ensures.value c.in_ok-drawn.ensures.indexed) in
@@ -91,6 +93,8 @@ returns c =
         exact = c.in_ok-borders.ensures.borders;
         drawn = z;
       };
+      bounds = record { planar = c.in_ok-borders.ensures.planar; points = c.in_ok-borders.ensures.points };
+      left = left;
       few = c.in_ok-borders.ensures.few;
       arcs_are = a;
       indexed = i;

@@ -6,7 +6,7 @@ use Rattle.region_rings.specs.Ways.{other_end_of}
 use Rattle.region_rings.proofs.DrawLemmas.{to_end, tail_end, with_spoke, marks_after, IsWalking, walking_begun, walking_on, walking_less, walking_done}
 use Rattle.edge_sides.specs.Sides.{start_of}
 use Rattle.edge_sides.specs.Laws.{AreBalanced}
-use Rattle.region_rings.specs.LeftWalks.{IsLeftCourse, IsLeftAtRest}
+use Rattle.region_rings.specs.LeftWalks.{IsLeftCourse}
 use Rattle.region_rings.proofs.LeftLemmas.{left_begun, left_done, left_on, first_leads, goes_away}
 use Rattle.region_rings.proofs.CourseLemmas.{along_edge}
 use Rattle.plane_edge.specs.Line.{is_end_of}

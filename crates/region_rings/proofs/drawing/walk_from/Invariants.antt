@@ -1,4 +1,4 @@
-use Rattle.std.proofs.Common.{◌≡◌, ℕ, true, count_by, get_or, IfSome}
+use Rattle.std.proofs.Common.{◌≡◌, true, count_by, get_or, IfSome}
 use Rattle.plane_edge.specs.declared.edge.Edge.{Edge}
 use Rattle.edge_sides.specs.Sides.{start_of}
 use Rattle.edge_sides.specs.Laws.{AreBalanced}

@@ -1,4 +1,4 @@
-use Rattle.std.proofs.Common.{◌<◌, length, arith}
+use Rattle.std.proofs.Common.{arith}
 use Rattle.region_rings.proofs.ExitLemmas.{exit_read}
 use Rattle.region_rings.proofs.border.Border.is_walked_at.Goals as goal
 
