@@ -13,6 +13,7 @@ use Rattle.plane_edge.specs.Edges.{is_same_edge, occurrences, IsRisingEdges}
 use Rattle.plane_edge.proofs.OrderLemmas.{same_edges_equal, same_edge_itself, equal_edges_same, edge_order, same_edge_is_equal}
 use Rattle.std.specs.Ordering.{is_eq}
 use Rattle.std.proofs.lemmas.Bool.{and_parts, eqb-true}
+use Rattle.agg_base.specs.declared.limits.TheConstants.{STEPS}
 use Rattle.area_graph.proofs.LengthLemmas.{edge_length_small}
 use Rattle.plane_edge.proofs.OddLemmas.{occurs_once}
 use Rattle.coverage_check.specs.Areas.{is_this}
@@ -193,7 +194,7 @@ summed_size wide high test (e ∷ es) o k hw hh h s is =
 none_some : {P : Type 0} (s : ℤ) → None ≡ Some s → P
 none_some s h = cc
 
-pub border_small : (wide high : ℕ) (owner : Edge → Option ℕ) (es : List Edge) (a : ℕ) (s : ℤ) → wide ≤ 100 → high ≤ 100 → length es ≤ 2097152 → border_sum wide high owner es a ≡ Some s → unsigned_abs s ≤ 2 ^ 68
+pub border_small : (wide high : ℕ) (owner : Edge → Option ℕ) (es : List Edge) (a : ℕ) (s : ℤ) → wide ≤ 100 → high ≤ 100 → length es ≤ STEPS → border_sum wide high owner es a ≡ Some s → unsigned_abs s ≤ 2 ^ 68
 border_small wide high owner es a s hw hh l is =
     let p = summed_size wide high (λ e. is_this a (owner e)) es None 0 hw hh (λ s h. none_some s h) s is in
     omega (arith, p, l)

@@ -1,9 +1,8 @@
 -- An area of one edge that weighs -2. No grid and no closed ring gives it.
-use Rattle.std.proofs.Common.{◌≡◌, ℕ, zero, suc, ◌<◌, [], ◌∷◌, List, refl, arith, lit<}
-use Rattle.std.specs.Prelude.{ℤ, pos, negsuc}
+use Rattle.std.proofs.Common.{ℕ, zero, suc, ◌<◌, [], ◌∷◌, List, refl, arith, lit<}
+use Rattle.std.specs.Prelude.{pos, negsuc}
 use Rattle.std.proofs.lemmas.Int.{ints}
 use Rattle.plane_edge.specs.Coordinate.{IsCoordinate}
-use Rattle.plane_edge.specs.declared.point.Point.{Point}
 use Rattle.plane_edge.specs.declared.edge.Edge.{Edge}
 use Rattle.class_table.specs.Table.{Table}
 use Rattle.area_graph.specs.Problems.{class_in, IsOwn, IsLeastLight}

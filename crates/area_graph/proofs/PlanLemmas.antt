@@ -5,6 +5,7 @@ use Rattle.std.proofs.lemmas.List.{length-map}
 use Rattle.std.proofs.Math.Seq.{take-length}
 use Rattle.std.proofs.lemmas.Int.{ints}
 use Rattle.std.proofs.lemmas.List.Sums.{sum_by-cons}
+use Rattle.agg_base.specs.declared.limits.TheConstants.{LINKS, STEPS}
 use Rattle.whole_ring.specs.Sums.{sum_below}
 use Rattle.whole_ring.proofs.Signs.{lin, within}
 use Rattle.whole_ring.proofs.Sizes.{abs-mul}
@@ -70,18 +71,18 @@ all_lengths_size f (suc n) h =
     let here = h n (omega arith) in
     omega (arith, lin, rest, here)
 
-small_enough : (w l : ℤ) (s n : ℕ) → w ≤ℤ pos (10000 * (2 ^ 62 * s)) → l ≤ℤ pos (2 ^ 68 * n) → s ≤ 2097152 → n ≤ 1048576 → (pos 10000 *ℤ (w +ℤ l)) <ℤ pos (2 ^ 110)
+small_enough : (w l : ℤ) (s n : ℕ) → w ≤ℤ pos (10000 * (2 ^ 62 * s)) → l ≤ℤ pos (2 ^ 68 * n) → s ≤ STEPS → n ≤ LINKS → (pos 10000 *ℤ (w +ℤ l)) <ℤ pos (2 ^ 110)
 small_enough w l s n h k p q =
-    let all : (w +ℤ l) ≤ℤ pos (10000 * (2 ^ 62 * 2097152) + 2 ^ 68 * 1048576) = omega (arith, lin) in
+    let all : (w +ℤ l) ≤ℤ pos (10000 * (2 ^ 62 * STEPS) + 2 ^ 68 * LINKS) = omega (arith, lin) in
     tenth (w +ℤ l) all
   where
-    tenth : (z : ℤ) → z ≤ℤ pos (10000 * (2 ^ 62 * 2097152) + 2 ^ 68 * 1048576) → (pos 10000 *ℤ z) <ℤ pos (2 ^ 110)
+    tenth : (z : ℤ) → z ≤ℤ pos (10000 * (2 ^ 62 * STEPS) + 2 ^ 68 * LINKS) → (pos 10000 *ℤ z) <ℤ pos (2 ^ 110)
     tenth z h = omega (arith, ints)
 
 whole_take : (os : List OddArea) (n : ℕ) → n ≡ length os → odd_edge_count (take n os) ≡ odd_edge_count os
 whole_take os n h = ap odd_edge_count (ap (λ (m : ℕ). take m os) h ∙ take-length os)
 
-pub plan_of : (os : List OddArea) (t : Table) (p : Problem) → IsChecked os → IsTable t → IsProblemOf os t p → length p.links ≤ 1048576 → IsProblem p
+pub plan_of : (os : List OddArea) (t : Table) (p : Problem) → IsChecked os → IsTable t → IsProblemOf os t p → length p.links ≤ LINKS → IsProblem p
 plan_of os t p checked table is few =
     let n : areas p ≡ length os = is.own.one_each in
     let k = is.classes in
@@ -116,7 +117,7 @@ plan_of os t p checked table is few =
     not_less : (m : ℕ) → pos 0 ≤ℤ pos m
     not_less m = omega (arith, lin)
 
-    short : (m j : ℕ) → m ≤ 2 ^ 47 * j → j ≤ 2097152 → pos m ≤ℤ pos (2 ^ 68)
+    short : (m j : ℕ) → m ≤ 2 ^ 47 * j → j ≤ STEPS → pos m ≤ℤ pos (2 ^ 68)
     short m j h k = omega (arith, lin)
 
     link_short : (l : ℕ) → l < length p.links → length_of p l ≤ℤ pos (2 ^ 68)
@@ -126,6 +127,6 @@ plan_of os t p checked table is few =
         let in_range = there (odds_of os) b e.edge e.in_b in
         let long : length (odds_of os) ≡ length os = length-map os (λ (a : OddArea). a.odd_edges) in
         let fs = odd_of (odds_of os) b in
-        let f : length fs ≤ 2097152 = few_of os b 2097152 (omega (arith, in_range, long)) checked.few_edges in
+        let f : length fs ≤ STEPS = few_of os b STEPS (omega (arith, in_range, long)) checked.few_edges in
         let c = common_size t.wide t.high (odd_of (odds_of os) (link_in p.links l).a) fs table.wide_most table.high_most in
         subst (λ (z : ℤ). z ≤ℤ pos (2 ^ 68)) (sym (is.links.long l h)) (short (common_length t.wide t.high (odd_of (odds_of os) (link_in p.links l).a) fs) (length fs) c f)

@@ -5,6 +5,7 @@ use Rattle.std.specs.Int.{w128}
 use Rattle.std.proofs.lemmas.List.{take_more, length-take-le, get_or-map}
 use Rattle.std.proofs.lemmas.List.Sums.{get_or-le-sum_by}
 use Rattle.std.proofs.lemmas.Int.{fits_signed_mul}
+use Rattle.agg_base.specs.declared.limits.TheConstants.{STEPS}
 use Rattle.coverage_check.specs.Cover.{odd_of}
 use Rattle.coverage_check.specs.Kept.{OddArea, odds_of, odd_edge_count}
 use Rattle.whole_ring.proofs.Sizes.{abs-mul}
@@ -101,7 +102,7 @@ term_size es e = go (eqb (others_crossed es e % 2) 0) (swept e) (swept_size e)
     go false z h = omega (arith, within)
 
 -- the sum over the first i edges
-pub part_size : (es fs : List Edge) (i : ℕ) → i ≤ length es → i ≤ 2097152 → unsigned_abs (sum_over (signed_term fs) (take i es)) ≤ 2 ^ 83
+pub part_size : (es fs : List Edge) (i : ℕ) → i ≤ length es → i ≤ STEPS → unsigned_abs (sum_over (signed_term fs) (take i es)) ≤ 2 ^ 83
 part_size es fs i h k =
     let s = sum_over-size (signed_term fs) (2 ^ 62) (take i es) (term_size fs) in
     let l = length-take-le i es h in

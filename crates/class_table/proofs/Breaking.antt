@@ -2,6 +2,7 @@
 use Rattle.std.proofs.Common.{◌≡◌, ◌≢◌, ℕ, ◌+◌, ◌<◌, ◌≤◌, ◌^◌, nat_lt, nat_le, ◌==◌, ◌&&◌, Bool, true, false, cond, List, [], ◌∷◌, ◌++◌, length, drop, slice_index, codes, Option, Some, None, Result, Ok, Err, IfErr, inl, inr, ◌⊎◌, ap, refl, ◌∙◌, arith}
 use Rattle.std.specs.Str.{bytes_eq}
 use Rattle.std.proofs.lemmas.Bool.Decides.{nat_tests}
+use Rattle.agg_base.specs.declared.limits.TheConstants.{CLASSES}
 use Rattle.text_words.specs.Words.{words, word}
 use Rattle.class_table.specs.Breaks.{SpellsNumber, SpellRow, IsUnitDue, IsBorderDue, IsClassDue, IsRowDue, IsDue, unit_due, border_due, class_due, row_due, BreaksFirst, wrong_version, wrong_words, wrong_factor, wrong_border, class_too_many, wrong_threshold, wrong_name, repeated_name, wrong_count, wrong_distance, far_from_itself, IsWhole, EndsEarly, no_version, no_last_row}
 use Rattle.class_table.specs.Names.{IsName, is_name}
@@ -175,18 +176,18 @@ class_due_says d n line digits counted is = says_due Body d n line counted is.du
 abbrev class_rules : Content → ℕ → List ℕ → Bool → Bool → Option ℕ → Result Content TableFault
 class_rules d n line short full o = cond short (breaks n Word) (cond full (Err (Limit n)) (if_number n o (λ threshold. named_class d n threshold (name_in line))))
 
-class_says : (d : Content) (n : ℕ) (line digits : List ℕ) → IsClassDue d line digits → class_line d n line (words line) ≡ class_rules d n line false (nat_le 64 (length d.names)) (number_in 0 (10 ^ 30) digits)
+class_says : (d : Content) (n : ℕ) (line digits : List ℕ) → IsClassDue d line digits → class_line d n line (words line) ≡ class_rules d n line false (nat_le CLASSES (length d.names)) (number_in 0 (10 ^ 30) digits)
 unfolding class_line
 class_says d n line digits is =
     let long : 3 ≤ length (words line) = (let m = ap length is.words_are in omega arith) in
-    ap (λ short. class_rules d n line short (nat_le 64 (length d.names)) (number_in 0 (10 ^ 30) (word (words line) 1))) (lt_false (length (words line)) 3 long)
-    ∙ ap (λ parts. class_rules d n line false (nat_le 64 (length d.names)) (number_in 0 (10 ^ 30) (word parts 1))) is.words_are
+    ap (λ short. class_rules d n line short (nat_le CLASSES (length d.names)) (number_in 0 (10 ^ 30) (word (words line) 1))) (lt_false (length (words line)) 3 long)
+    ∙ ap (λ parts. class_rules d n line false (nat_le CLASSES (length d.names)) (number_in 0 (10 ^ 30) (word parts 1))) is.words_are
 
-class_limit : (d : Content) (n : ℕ) (line digits : List ℕ) → IsClassDue d line digits → 64 ≤ length d.names → class_line d n line (words line) ≡ Err (Limit n)
-class_limit d n line digits is full = class_says d n line digits is ∙ ap (λ b. class_rules d n line false b (number_in 0 (10 ^ 30) digits)) (le_true 64 (length d.names) full)
+class_limit : (d : Content) (n : ℕ) (line digits : List ℕ) → IsClassDue d line digits → CLASSES ≤ length d.names → class_line d n line (words line) ≡ Err (Limit n)
+class_limit d n line digits is full = class_says d n line digits is ∙ ap (λ b. class_rules d n line false b (number_in 0 (10 ^ 30) digits)) (le_true CLASSES (length d.names) full)
 
-class_room : (d : Content) (n : ℕ) (line digits : List ℕ) (o : Option ℕ) → IsClassDue d line digits → length d.names < 64 → number_in 0 (10 ^ 30) digits ≡ o → class_line d n line (words line) ≡ class_rules d n line false false o
-class_room d n line digits o is room e = class_says d n line digits is ∙ ap (λ b. class_rules d n line false b (number_in 0 (10 ^ 30) digits)) (le_false 64 (length d.names) room) ∙ ap (λ r. class_rules d n line false false r) e
+class_room : (d : Content) (n : ℕ) (line digits : List ℕ) (o : Option ℕ) → IsClassDue d line digits → length d.names < CLASSES → number_in 0 (10 ^ 30) digits ≡ o → class_line d n line (words line) ≡ class_rules d n line false false o
+class_room d n line digits o is room e = class_says d n line digits is ∙ ap (λ b. class_rules d n line false b (number_in 0 (10 ^ 30) digits)) (le_false CLASSES (length d.names) room) ∙ ap (λ r. class_rules d n line false false r) e
 
 name_breaks : (d : Content) (n threshold : ℕ) (name : List ℕ) → ¬ IsName name → named_class d n threshold name ≡ breaks n Name
 unfolding named_class

@@ -2,6 +2,7 @@
 use Rattle.std.proofs.Common.{◌≡◌, ◌≢◌, ℕ, ◌+◌, ◌<◌, ◌≤◌, ◌^◌, nat_lt, nat_le, ◌==◌, ◌&&◌, Bool, true, false, not, cond, List, [], ◌∷◌, length, drop, slice_index, codes, Option, Some, None, Result, Err, IfErr, inl, inr, ◌⊎◌, sym, ap, refl, ◌∙◌, arith}
 use Rattle.std.specs.Str.{bytes_eq}
 use Rattle.std.proofs.lemmas.Slice.Eq.{bytes_eq-Decides}
+use Rattle.agg_base.specs.declared.limits.TheConstants.{CLASSES}
 use Rattle.text_words.specs.Words.{words, word}
 use Rattle.class_table.specs.Breaks.{SpellsNumber, SpellRow, IsUnitDue, IsBorderDue, IsClassDue, IsRowDue, IsDue, unit_due, border_due, class_due, row_due, BreaksFirst, wrong_version, wrong_words, wrong_factor, wrong_border, class_too_many, wrong_threshold, wrong_name, repeated_name, wrong_count, wrong_distance, far_from_itself}
 use Rattle.class_table.specs.Names.{is_name}
@@ -134,7 +135,7 @@ negated : (b : Bool) → not b ≡ false → b ≡ true
 negated true f = refl
 negated false f = (cc)
 
-name_fault : (d : Content) (n threshold : ℕ) (line digits : List ℕ) → IsClassDue d line digits → length d.names < 64 → SpellsNumber 0 (10 ^ 30) digits → IfErr (named_class d n threshold (name_in line)) (BreaksFirst d n line)
+name_fault : (d : Content) (n threshold : ℕ) (line digits : List ℕ) → IsClassDue d line digits → length d.names < CLASSES → SpellsNumber 0 (10 ^ 30) digits → IfErr (named_class d n threshold (name_in line)) (BreaksFirst d n line)
 unfolding named_class
 name_fault d n threshold line digits is room spelled =
     let name = name_in line in
@@ -164,11 +165,11 @@ class_fault d n line due head rows =
       more = drop 3 parts;
       words_are = some_words parts (not_lt_test (length parts) 3 f) ∙ ap (λ w. w ∷ digits ∷ word parts 2 ∷ drop 3 parts) head;
     } in
-    by_choice P (nat_le 64 (length d.names)) _ _
-    (λ full. class_too_many digits is (le_test 64 (length d.names) full))
+    by_choice P (nat_le CLASSES (length d.names)) _ _
+    (λ full. class_too_many digits is (le_test CLASSES (length d.names) full))
     (λ room. by_number P n (number_in 0 (10 ^ 30) digits) _
-    (λ none. wrong_threshold digits is (not_le_test 64 (length d.names) room) (unspelled 0 (10 ^ 30) digits none))
-    (λ threshold some. name_fault d n threshold line digits is (not_le_test 64 (length d.names) room) (threshold, number_in_is 0 (10 ^ 30) digits threshold some)))))
+    (λ none. wrong_threshold digits is (not_le_test CLASSES (length d.names) room) (unspelled 0 (10 ^ 30) digits none))
+    (λ threshold some. name_fault d n threshold line digits is (not_le_test CLASSES (length d.names) room) (threshold, number_in_is 0 (10 ^ 30) digits threshold some)))))
 
 -- a row
 

@@ -7,6 +7,7 @@ use Rattle.std.proofs.lemmas.Int.{ints}
 use Rattle.std.proofs.lemmas.Nat.{mul-le}
 use Rattle.std.proofs.lemmas.List.{length-append, get_or_append_left, get_or_at, get_or-append-add, get_or-append_right}
 use Rattle.std.proofs.lemmas.Slice.Eq.{bytes_eq-Decides}
+use Rattle.agg_base.specs.declared.limits.TheConstants.{CLASSES}
 use Rattle.agg_base.specs.Lines.{Row}
 use Rattle.class_table.specs.Table.{IsTable}
 use Rattle.class_table.specs.Names.{IsName}
@@ -83,7 +84,7 @@ pub record Kept (d : Content) : Type 0 where
   high_least : 1 ≤ d.high
   high_most : d.high ≤ 100
   cheap : d.border ≤ 10000
-  few : length d.names ≤ 64
+  few : length d.names ≤ CLASSES
   named : (k : ℕ) → k < length d.names → IsName (get_or d.names k [])
   thresholds : length d.threshold ≡ length d.names
   threshold_least : (k : ℕ) → k < length d.names → pos 0 ≤ℤ get_or d.threshold k (pos 0)

@@ -3,6 +3,7 @@ use Rattle.std.proofs.Common.{◌≡◌, ◌≢◌, ℕ, zero, suc, ◌+◌, ◌
 use Rattle.std.specs.List.{AllZip, concat}
 use Rattle.std.proofs.lemmas.Bool.Decides.{Decides-eqb}
 use Rattle.std.proofs.lemmas.List.{length-append, append_assoc, append-nil, get_or_append_left, get_or_at}
+use Rattle.agg_base.specs.declared.limits.TheConstants.{CLASSES}
 use Rattle.class_table.specs.Table.{Table, IsTable}
 use Rattle.class_table.specs.Content.{Content, no_content, table_of, is_among}
 use Rattle.class_table.specs.Reading.{is_whole}
@@ -53,7 +54,7 @@ rows_add c r (line ∷ lines) (row ∷ rows) all square few long home =
       subst (λ (e : Content). AddAll (body_at (r + 1) (extend c row)) lines e) (ap (λ m. body_at m (record c { distance = (c.distance ++ row) ++ concat rows })) place ∙ ap (λ ds. body_at (r + length (row ∷ rows)) (record c { distance = ds })) regroup) rest,
     )
 
-classes_add : (c : Table) (lines : List (List ℕ)) (ts : List ℤ) (names : List (List ℕ)) (rest : List (List ℕ)) (e : Content) → AreClassLines lines ts names → length (c.names ++ names) ≤ 64 → Apart (c.names ++ names)
+classes_add : (c : Table) (lines : List (List ℕ)) (ts : List ℤ) (names : List (List ℕ)) (rest : List (List ℕ)) (e : Content) → AreClassLines lines ts names → length (c.names ++ names) ≤ CLASSES → Apart (c.names ++ names)
     → AddAll (body_at 0 (record c { names = c.names ++ names; threshold = c.threshold ++ ts })) rest e → AddAll (body_at 0 c) (lines ++ rest) e
 classes_add c [] [] [] rest e all few apart adds =
     subst (λ (d : Content). AddAll d rest e) (ap (λ ns. body_at 0 (record c { names = ns; threshold = c.threshold ++ [] })) (append-nil c.names) ∙ ap (λ ts. body_at 0 (record c { threshold = ts })) (append-nil c.threshold)) adds
@@ -65,7 +66,7 @@ classes_add c (line ∷ lines) (t ∷ ts) (name ∷ names) rest e all few apart 
     (get_or_append_left c.names (name ∷ names) [] k l ∙ same ∙ sym (get_or_at c.names name names [] (length c.names) refl))) in (
       body_at 0 (push c t name),
       inl (record { threshold = t; name = name; line_is = all.0; before_rows = refl; room = omega arith; new = new; then_is = refl }),
-      classes_add (push c t name) lines ts names rest e all.1 (subst (λ ns. length ns ≤ 64) (sym regroup) few) (subst Apart (sym regroup) apart)
+      classes_add (push c t name) lines ts names rest e all.1 (subst (λ ns. length ns ≤ CLASSES) (sym regroup) few) (subst Apart (sym regroup) apart)
           (subst (λ (d : Content). AddAll d rest e) (ap (λ ns. body_at 0 (record c { names = ns; threshold = c.threshold ++ t ∷ ts })) (sym regroup) ∙ ap (λ us. body_at 0 (record c { names = (c.names ++ name ∷ []) ++ names; threshold = us })) (sym also)) adds),
     )
 classes_add c lines ts names rest e all few apart adds = absurd all

@@ -2,9 +2,6 @@
 //! program's name also the time of each check.
 #![tactic(auto)]
 
-ghost use Rattle.std.specs.Prelude.{◌≤◌, IsTrue};
-ghost use Rattle.plane_edge.specs.Rings.{step_count};
-
 use agg_base::{NoMemory, Text};
 use coverage_check::check;
 use crew_work::Alone;
@@ -75,34 +72,10 @@ fn board(alloc: Global, side: u32) -> Result<Vec<Area>, NoMemory> {
     Ok(areas)
 }
 
-// Whether the areas have no more steps than a coverage may have.
-fn are_few(areas: &[Area]) -> bool
-    ensures { IsTrue result → step_count areas.now ≤ 2097152 }
-{
-    let mut total = 0;
-    for area in areas {
-        let steps = area.steps().len();
-        if steps > 2_097_152 - total {
-            return false;
-        }
-        total += steps;
-    }
-    true
-}
-
 // How many areas the checked coverage has, or 0 where it is refused.
 fn answer(alloc: Global, areas: Vec<Area>) -> usize {
-    if areas.len() > 65_536 {
+    let Some(coverage) = Coverage::of(areas, 0, Frame::Plain) else {
         return 0;
-    }
-    let few = are_few(&areas);
-    if !few {
-        return 0;
-    }
-    let coverage = Coverage {
-        areas,
-        passed: 0,
-        frame: Frame::Plain,
     };
     match check(alloc, coverage, &Alone) {
         Ok(map) => map.areas(),

@@ -1,5 +1,5 @@
 -- One more word of cells.
-use Rattle.std.proofs.Common.{◌≡◌, ℕ, ◌+◌, ◌*◌, ◌/◌, ◌%◌, ◌<◌, ◌≤◌, ap, sym, ◌∙◌, arith, subst, List, [], ◌∷◌, ◌++◌, length, take, ℤ, length-append, mul_comm, to_z, of_z, w32}
+use Rattle.std.proofs.Common.{◌≡◌, ℕ, ◌+◌, ◌*◌, ◌/◌, ◌%◌, ◌<◌, sym, arith, subst, List, [], ◌∷◌, ◌++◌, length, take, ℤ, length-append, mul_comm, to_z, of_z, w32}
 use Rattle.std.specs.List.{AllZip}
 use Rattle.std.proofs.lemmas.List.{take_all}
 use Rattle.std.proofs.lemmas.Int.{ints, to_z-of_z}

@@ -3,6 +3,7 @@ use Rattle.std.proofs.Common.{◌≡◌, ℕ, ◌*◌, ◌≤◌, ◌==◌, ◌�
 use Rattle.std.specs.Prelude.{nat_le, slice_index}
 use Rattle.std.specs.Char.{is_ascii_alphabetic}
 use Rattle.std.proofs.lemmas.Bool.Decides.{nat_tests, Decides-eqb}
+use Rattle.agg_base.specs.declared.limits.TheConstants.{CELLS}
 use Rattle.agg_base.specs.Lines.{Row}
 use Rattle.plane_edge.specs.declared.frame.Limit.TheVariants.{Cells}
 use Rattle.plane_edge.specs.declared.frame.Frame.TheVariants.{Scaled}
@@ -154,7 +155,7 @@ header_or h (row ∷ rows) = elim (blank_or (words row.text)) as (λ _. HeaderOr
 -- ---- the end
 
 abbrev EndOr : Draft → ℕ → Type 0
-EndOr h number = ((w : Whole) × SaysWhole h w × (w.columns * w.rows ≤ 524288)) ⊎ ((f : GridFault) × IsEndFault h number f)
+EndOr h number = ((w : Whole) × SaysWhole h w × (w.columns * w.rows ≤ CELLS)) ⊎ ((f : GridFault) × IsEndFault h number f)
 
 has_no_lack : (h : Draft) (columns rows : ℕ) (left low size : List ℕ) → h.columns ≡ Some columns → h.rows ≡ Some rows → h.left ≡ Some left → h.low ≡ Some low → h.size ≡ Some size → ¬ (LacksWord h)
 has_no_lack h columns rows left low size a b c d e lacks = elim lacks as (λ _. ⊥) [
@@ -167,7 +168,7 @@ has_no_lack h columns rows left low size a b c d e lacks = elim lacks as (λ _. 
 
 whole_end : (h : Draft) (number columns rows : ℕ) (left low size : List ℕ) → h.columns ≡ Some columns → h.rows ≡ Some rows → h.left ≡ Some left → h.low ≡ Some low → h.size ≡ Some size → EndOr h number
 whole_end h number columns rows left low size a b c d e =
-    by_cases_of (nat_le (columns * rows) 524288) _
+    by_cases_of (nat_le (columns * rows) CELLS) _
     (λ few. inl (
       record { columns = columns; rows = rows; nodata = unwrap_or h.nodata (neg_ℤ (pos 9999)); frame = Scaled size size left low },
       record { left = left; low = low; size = size; columns_are = a; rows_are = b; nodata_is = refl; left_is = c; low_is = d; size_is = e; frame_is = refl },

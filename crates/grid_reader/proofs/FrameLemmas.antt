@@ -1,13 +1,9 @@
 -- The texts of a grid's frame are numbers of JSON.
-use Rattle.std.proofs.Common.{◌≡◌, ◌⊎◌, inl, inr, ℕ, List, [], ◌∷◌, Option, Some, None, sym, ◌∙◌, subst}
+use Rattle.std.proofs.Common.{◌≡◌, inl, inr, ℕ, List, [], ◌∷◌, Some, None, sym, ◌∙◌, subst}
 use Rattle.agg_base.specs.Lines.{Row, rows_from}
-use Rattle.plane_edge.specs.declared.frame.Frame.{Frame}
-use Rattle.plane_edge.specs.declared.frame.Frame.TheVariants.{Scaled}
-use Rattle.plane_edge.specs.Rings.{Area}
 use Rattle.text_words.specs.Words.{word, words}
 use Rattle.grid_reader.specs.Header.{Draft, new_draft, Sets}
 use Rattle.grid_reader.specs.Reading.{EndsHeader}
-use Rattle.grid_reader.specs.GridTexts.{IsGridText, SpellsGrid}
 use Rattle.grid_reader.specs.declared.draft.Name.{Name}
 use Rattle.grid_reader.specs.declared.draft.Name.TheVariants.{Columns, Rows, Left, Low, Size, Nodata, Centre}
 use Rattle.json_text.specs.Numbers.{IsJsonNumber}

@@ -2,6 +2,7 @@
 use Rattle.std.proofs.Common.{◌≡◌, ℕ, ◌*◌, ◌≤◌, ◌⊎◌, inl, inr, refl, sym, ◌∙◌, List, length, ℤ}
 use Rattle.std.specs.List.{AllZip}
 use Rattle.std.proofs.lemmas.Slice.Zip.{AllZip-long}
+use Rattle.agg_base.specs.declared.limits.TheConstants.{CELLS}
 use Rattle.agg_base.specs.Lines.{Row, rows_from}
 use Rattle.plane_edge.specs.declared.frame.Frame.{Frame}
 use Rattle.plane_edge.specs.declared.frame.Limit.TheVariants.{Areas}
@@ -35,7 +36,7 @@ of_grid text g frame is =
       | inr many ↦ inr (Limit Areas, in_patches g frame is (refl, many))
     ]
 
-of_whole : (text : List ℕ) (head : Draft) (body : List Row) (whole : Whole) → EndsHeader new_draft (rows_from 1 text) head body → SaysWhole head whole → whole.columns * whole.rows ≤ 524288 → Answer text
+of_whole : (text : List ℕ) (head : Draft) (body : List Row) (whole : Whole) → EndsHeader new_draft (rows_from 1 text) head body → SaysWhole head whole → whole.columns * whole.rows ≤ CELLS → Answer text
 of_whole text head body whole ends says few =
     let some = some_counts text head body ends whole.columns whole.rows says.columns_are says.rows_are in
     elim (body_or whole.columns (whole.columns * whole.rows) (body_words body) some.0) as (λ _. Answer text) [

@@ -1,5 +1,6 @@
 -- A number of JSON is made of ASCII.
 use Rattle.std.proofs.Common.{◌≡◌, ℕ, zero, suc, ◌<◌, ◌==◌, ◌&&◌, ◌||◌, nat_lt, not, refl, sym, arith, subst, inl, inr, true, List, [], ◌∷◌, length, drop}
+use Rattle.std.proofs.lemmas.Bool.{and_parts, or_cases}
 use Rattle.std.specs.Prelude.{slice_index}
 use Rattle.std.specs.Str.{IsAscii, IsUtf8}
 use Rattle.std.specs.Char.{is_ascii_digit}
@@ -7,7 +8,7 @@ use Rattle.std.proofs.lemmas.Bool.Decides.{nat_tests, Decides-eqb}
 use Rattle.std.proofs.lemmas.Str.{IsUtf8-from_ascii}
 use Rattle.std.proofs.Math.Seq.{drop-length}
 use Rattle.json_text.specs.NumberTest.{run, strip_sign, is_digits, is_power, is_fraction, is_rest, is_bare_number, is_json_number}
-use Rattle.json_text.proofs.Cases.{both, either, by_cases_of}
+use Rattle.json_text.proofs.Cases.{by_cases_of}
 
 ascii_none : IsAscii []
 ascii_none i = omega arith
@@ -41,7 +42,7 @@ unsigned_ascii t more =
     by_cases_of ((slice_index t 0 == 43) || (slice_index t 0 == 45)) _
     (λ e.
     let behind : IsAscii (drop 1 t) = rw e at more in
-    elim (either (slice_index t 0 == 43) (slice_index t 0 == 45) e) [
+    elim (or_cases (slice_index t 0 == 43) (slice_index t 0 == 45) e) [
       | inl k ↦ behind_first t 43 (omega arith) k behind
       | inr k ↦ behind_first t 45 (omega arith) k behind
     ])
@@ -49,28 +50,28 @@ unsigned_ascii t more =
 
 digits_ascii : (t : List ℕ) → is_digits t ≡ true → IsAscii t
 digits_ascii t h =
-    let all : run t ≡ length t = (Decides-eqb (run t) (length t)).0 (both (nat_lt 0 (run t)) (run t == length t) h).1 in
+    let all : run t ≡ length t = (Decides-eqb (run t) (length t)).0 (and_parts (nat_lt 0 (run t)) (run t == length t) h).1 in
     run_ascii t (subst (λ (k : ℕ). IsAscii (drop k t)) (sym all) (subst (λ (xs : List ℕ). IsAscii xs) (sym (drop-length t)) ascii_none))
 
 power_ascii : (t : List ℕ) → is_power t ≡ true → IsAscii t
 power_ascii [] h = ascii_none
 power_ascii (x ∷ t) h =
-    elim (either (length (x ∷ t) == 0) (((x == 101) || (x == 69)) && is_digits (strip_sign t)) h) [
+    elim (or_cases (length (x ∷ t) == 0) (((x == 101) || (x == 69)) && is_digits (strip_sign t)) h) [
       | inl e ↦ absurd (let none : length (x ∷ t) ≡ 0 = (Decides-eqb (length (x ∷ t)) 0).0 e in omega arith)
       | inr e ↦ power_parts x t e
     ]
   where
     power_parts : (x : ℕ) (t : List ℕ) → (((x == 101) || (x == 69)) && is_digits (strip_sign t)) ≡ true → IsAscii (x ∷ t)
     power_parts x t e =
-        let parts = both ((x == 101) || (x == 69)) (is_digits (strip_sign t)) e in
+        let parts = and_parts ((x == 101) || (x == 69)) (is_digits (strip_sign t)) e in
         let more : IsAscii t = unsigned_ascii t (digits_ascii (strip_sign t) parts.1) in
-        elim (either (x == 101) (x == 69) parts.0) [
+        elim (or_cases (x == 101) (x == 69) parts.0) [
           | inl k ↦ (let same : x ≡ 101 = (Decides-eqb x 101).0 k in ascii_cons x t (omega arith) more)
           | inr k ↦ (let same : x ≡ 69 = (Decides-eqb x 69).0 k in ascii_cons x t (omega arith) more)
         ]
 
 fraction_ascii : (t : List ℕ) → is_fraction t ≡ true → IsAscii t
-fraction_ascii t h = run_ascii t (power_ascii (drop (run t) t) (both (nat_lt 0 (run t)) (is_power (drop (run t) t)) h).1)
+fraction_ascii t h = run_ascii t (power_ascii (drop (run t) t) (and_parts (nat_lt 0 (run t)) (is_power (drop (run t) t)) h).1)
 
 rest_ascii : (t : List ℕ) → is_rest t ≡ true → IsAscii t
 rest_ascii t h =
@@ -79,7 +80,7 @@ rest_ascii t h =
     (λ e. power_ascii t (rw e at h))
 
 bare_ascii : (t : List ℕ) → is_bare_number t ≡ true → IsAscii t
-bare_ascii t h = run_ascii t (rest_ascii (drop (run t) t) (both (nat_lt 0 (run t) && ((run t == 1) || not (slice_index t 0 == 48))) (is_rest (drop (run t) t)) h).1)
+bare_ascii t h = run_ascii t (rest_ascii (drop (run t) t) (and_parts (nat_lt 0 (run t) && ((run t == 1) || not (slice_index t 0 == 48))) (is_rest (drop (run t) t)) h).1)
 
 json_ascii : (t : List ℕ) → is_json_number t ≡ true → IsAscii t
 json_ascii t h =

@@ -1,6 +1,7 @@
 -- A text spells one grid at most, or has one first fault.
 use Rattle.std.proofs.Common.{◌≡◌, ℕ, ◌*◌, ◌≤◌, ap, ap₂, sym, ◌∙◌, arith, subst, List, length, ℤ}
 use Rattle.std.specs.List.{AllZip}
+use Rattle.agg_base.specs.declared.limits.TheConstants.{CELLS}
 use Rattle.agg_base.specs.Lines.{Row, rows_from}
 use Rattle.plane_edge.specs.declared.frame.Frame.{Frame}
 use Rattle.plane_edge.specs.declared.frame.Limit.TheVariants.{Areas}
@@ -27,7 +28,7 @@ use Rattle.grid_reader.proofs.OneCoverage.{areas_one}
 record Starts (text : List ℕ) (head : Draft) (body : List Row) (whole : Whole) : Type 0 where
   pub ends : EndsHeader new_draft (rows_from 1 text) head body
   pub says : SaysWhole head whole
-  pub few : whole.columns * whole.rows ≤ 524288
+  pub few : whole.columns * whole.rows ≤ CELLS
 
 record OneStart (body more : List Row) (v w : Whole) : Type 0 where
   pub body_is : body ≡ more

@@ -2,6 +2,7 @@
 use Rattle.std.proofs.Common.{◌≡◌, ℕ, ◌*◌, ◌<◌, ◌≤◌, ◌⊎◌, inl, inr, ap, sym, ◌∙◌, subst, arith, true, List, [], ◌∷◌, Option, Some, None, ℤ}
 use Rattle.std.specs.Prelude.{slice_index}
 use Rattle.std.specs.Char.{is_ascii_alphabetic}
+use Rattle.agg_base.specs.declared.limits.TheConstants.{CELLS}
 use Rattle.agg_base.specs.Lines.{Row}
 use Rattle.agg_base.proofs.WholeText.{one_whole}
 use Rattle.plane_edge.specs.declared.frame.Limit.TheVariants.{Cells}
@@ -198,13 +199,13 @@ says_lacks h w says lacks = elim lacks as (λ _. ⊥) [
 ]
 
 -- the end of a whole header has no fault
-pub says_fault : (h : Draft) (number : ℕ) (w : Whole) (fault : GridFault) → SaysWhole h w → w.columns * w.rows ≤ 524288 → ¬ (IsEndFault h number fault)
+pub says_fault : (h : Draft) (number : ℕ) (w : Whole) (fault : GridFault) → SaysWhole h w → w.columns * w.rows ≤ CELLS → ¬ (IsEndFault h number fault)
 says_fault h number w fault says few is =
     elim (end_kind h number fault is) as (λ _. ⊥) [
       | inl lacks ↦ says_lacks h w says lacks.1
       | inr many ↦
           (let columns : many.2.columns ≡ w.columns = one_some h.columns many.2.columns w.columns many.2.columns_are says.columns_are in
           let rows : many.2.rows ≡ w.rows = one_some h.rows many.2.rows w.rows many.2.rows_are says.rows_are in
-          let more : 524288 < w.columns * w.rows = subst (λ (n : ℕ). 524288 < w.columns * n) rows (subst (λ (n : ℕ). 524288 < n * many.2.rows) columns many.2.many) in
+          let more : CELLS < w.columns * w.rows = subst (λ (n : ℕ). CELLS < w.columns * n) rows (subst (λ (n : ℕ). CELLS < n * many.2.rows) columns many.2.many) in
           omega arith)
     ]

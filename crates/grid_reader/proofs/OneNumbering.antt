@@ -1,6 +1,7 @@
 -- The patches of a grid have one numbering.
 use Rattle.std.proofs.Common.{◌≡◌, ℕ, zero, suc, ◌<◌, ◌≤◌, nat_lt, ap, sym, ◌∙◌, refl, arith, List, length, Option, Some, None}
 use Rattle.std.proofs.lemmas.Bool.Decides.{nat_tests}
+use Rattle.agg_base.specs.declared.limits.TheConstants.{AREAS}
 use Rattle.plane_edge.specs.Rings.{Area}
 use Rattle.grid_reader.specs.Grid.{Grid}
 use Rattle.grid_reader.specs.Walks.{InOnePatch}
@@ -65,7 +66,7 @@ pub one_count : (g : Grid) (n m k : ℕ) (a b : ℕ → Option ℕ) → AreNumbe
 one_count g n m k a b x y = same_number m k (not_fewer g n m k a b x y) (not_fewer g n k m b a y x)
 
 -- a grid with areas has few patches
-pub areas_few : (g : Grid) (areas : List Area) → AreAreas g areas → length areas ≤ 65536 → ¬ (HasManyPatches g)
+pub areas_few : (g : Grid) (areas : List Area) → AreAreas g areas → length areas ≤ AREAS → ¬ (HasManyPatches g)
 areas_few g areas is few many =
     let same : many.count ≡ length areas = one_count g (length g.cells) many.count (length areas) many.number is.number many.patches is.patches in
     let more = many.many in

@@ -1,15 +1,15 @@
 -- Patches are the sets that pairs of cells join.
-use Rattle.std.proofs.Common.{◌≡◌, ℕ, zero, suc, ◌+◌, ◌<◌, ◌≤◌, ◌≢◌, length, refl, ap, sym, ◌∙◌, arith, subst, inl, inr, zero-add, suc-add, add-one, List, [], ◌∷◌, slice_index}
+use Rattle.std.proofs.Common.{◌≡◌, ℕ, zero, suc, ◌+◌, ◌<◌, ◌≢◌, length, refl, ap, sym, ◌∙◌, arith, subst, inl, inr, zero-add, suc-add, add-one, List, [], ◌∷◌, slice_index}
 use Rattle.std.specs.Prelude.{◌==◌}
 use Rattle.std.specs.List.{Contains}
 use Rattle.std.proofs.lemmas.Bool.Decides.{Decides-eqb}
 use Rattle.json_text.proofs.Cases.{by_cases_of, false_true}
-use Rattle.union_find.specs.Sets.{IsPaired, InOneSet, AreSets}
+use Rattle.union_find.specs.Sets.{IsPaired, AreSets}
 use Rattle.union_find.specs.Sets.{Walk as PairWalk}
 use Rattle.union_find.proofs.SetLemmas.{contains_first, contains_later, contains_cases, contains_none, sets_law, set_itself}
 use Rattle.grid_reader.specs.Grid.{Grid, value_at}
 use Rattle.grid_reader.specs.Walks.{IsRightOf, IsBelow, HaveOneValue, Leads, Adjoin, Walk, InOnePatch}
-use Rattle.grid_reader.specs.Joins.{AreJoins, IsJoined}
+use Rattle.grid_reader.specs.Joins.{AreJoins}
 use Rattle.grid_reader.specs.Patches.{AreLeaders}
 
 -- ---- walks

@@ -2,6 +2,7 @@
 use Rattle.std.proofs.Common.{◌≡◌, ℕ, ◌+◌, ◌*◌, ◌≤◌, inl, inr, sym, ◌∙◌, subst, arith, List, [], ◌∷◌, length, Option, Some, None, MatchOption, IfSome, IfNone, ℤ, Result, Ok, Err, IfOk, IfErr, IsErrAnd}
 use Rattle.std.specs.List.{AllZip}
 use Rattle.std.proofs.lemmas.Slice.Zip.{AllZip-long}
+use Rattle.agg_base.specs.declared.limits.TheConstants.{CELLS}
 use Rattle.agg_base.specs.Lines.{Row, row, rows_left, rows_from}
 use Rattle.agg_base.specs.declared.line.Line.{Line}
 use Rattle.agg_base.specs.declared.line.Lines.{Lines}
@@ -96,7 +97,7 @@ first_fault text (Count found) P to is = to is
 first_fault text (Limit limit) P to is = to is
 
 -- the grid that the words behind a whole header spell
-pub raster_of : (columns rows : ℕ) (nodata : ℤ) (cells : List ℤ) (parts : List (List ℕ)) → (1 ≤ columns) × (1 ≤ rows) → columns * rows ≤ 524288 → length parts ≡ columns * rows → AllZip SpellsCell parts cells
+pub raster_of : (columns rows : ℕ) (nodata : ℤ) (cells : List ℤ) (parts : List (List ℕ)) → (1 ≤ columns) × (1 ≤ rows) → columns * rows ≤ CELLS → length parts ≡ columns * rows → AllZip SpellsCell parts cells
     → IsGrid (record { columns = columns; rows = rows; nodata = nodata; cells = cells })
 raster_of columns rows nodata cells parts some few count spelled =
     let long : length cells ≡ length parts = AllZip-long SpellsCell parts cells spelled in

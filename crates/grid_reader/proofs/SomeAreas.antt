@@ -6,12 +6,14 @@ use Rattle.std.proofs.lemmas.Bool.Decides.{nat_tests}
 use Rattle.std.proofs.lemmas.Int.{ints}
 use Rattle.std.proofs.lemmas.List.{map-append, length_push}
 use Rattle.std.proofs.lemmas.Nat.{mul-le}
+use Rattle.agg_base.specs.declared.limits.TheConstants.{AREAS, CELLS}
 use Rattle.plane_edge.specs.Coordinate.{IsCoordinate}
 use Rattle.plane_edge.specs.Edges.{is_same_point}
 use Rattle.plane_edge.specs.Order.{is_below}
 use Rattle.plane_edge.specs.declared.edge.Edge.{Edge}
 use Rattle.plane_edge.specs.declared.point.Point.{Point}
 use Rattle.plane_edge.specs.Rings.{Area, ends_of, step_between, path_from, steps_of_ring}
+use Rattle.map_values.proofs.SomeEdges.{rings_edges}
 use Rattle.grid_reader.specs.Grid.{Grid, IsGrid, value_at}
 use Rattle.grid_reader.specs.Patches.{ArePatches}
 use Rattle.grid_reader.specs.Areas.{place_of, corners_at, corners_of, area_at, AreAreas, HasManyPatches}
@@ -21,54 +23,19 @@ use Rattle.grid_reader.proofs.AreaLemmas.{area_pushed}
 use Rattle.grid_reader.proofs.MemberLemmas.{members_areas}
 use Rattle.grid_reader.proofs.SomePatches.{members_of}
 
--- ---- edges
-
-record SomeEdges (steps : List (Point × Point)) : Type 0 where
-  pub edges : List Edge
-  pub are : map ends_of edges ≡ steps
-
-neither_below : (p q : Point) → is_same_point p q ≡ false → is_below q p ≡ false → is_below p q ≡ true
-neither_below p q differ other = grind (arith, ints)
-
-step_edges : (a b : Point) → SomeEdges (step_between a b)
-step_edges a b =
-    by_cases_of (is_same_point a b) _
-    (λ same. record { edges = []; are = rw same refl })
-    (λ differ. by_cases_of (is_below b a) _
-    (λ below. record { edges = record { low = b; high = a; rising = below } ∷ []; are = rw (differ, below) refl })
-    (λ above. record { edges = record { low = a; high = b; rising = neither_below a b differ above } ∷ []; are = rw (differ, above) refl }))
-
-both_edges : (s t : List (Point × Point)) → SomeEdges s → SomeEdges t → SomeEdges (s ++ t)
-both_edges s t a b = record {
-  edges = a.edges ++ b.edges;
-  are = map-append ends_of a.edges b.edges ∙ ap₂ (λ (x : List (Point × Point)) (y : List (Point × Point)). x ++ y) a.are b.are;
-}
-
-path_edges : (a : Point) (bs : List Point) → SomeEdges (path_from a bs)
-path_edges a [] = record { edges = []; are = refl }
-path_edges a (b ∷ bs) = both_edges (step_between a b) (path_from b bs) (step_edges a b) (path_edges b bs)
-
-ring_edges : (ring : List Point) → SomeEdges (steps_of_ring ring)
-ring_edges [] = record { edges = []; are = refl }
-ring_edges (p ∷ ps) = path_edges p (ps ++ p ∷ [])
-
-rings_edges : (rings : List (List Point)) → SomeEdges (flat_map steps_of_ring rings)
-rings_edges [] = record { edges = []; are = refl }
-rings_edges (ring ∷ rings) = both_edges (steps_of_ring ring) (flat_map steps_of_ring rings) (ring_edges ring) (rings_edges rings)
-
 -- ---- rings
 
 record SomeRing (corners : List (ℤ × ℤ)) : Type 0 where
   pub ring : List Point
   pub is : map place_of ring ≡ corners
 
-coordinate : (n : ℕ) → n ≤ 1073741824 → IsCoordinate (pos n)
+coordinate : (n : ℕ) → n ≤ CELLS → IsCoordinate (pos n)
 coordinate n few = record { least = omega (arith, ints); most = omega (arith, ints) }
 
-point_at : (x y : ℕ) → x ≤ 524288 → y ≤ 524288 → Point
+point_at : (x y : ℕ) → x ≤ CELLS → y ≤ CELLS → Point
 point_at x y across up = record { y = pos y; x = pos x; y_in_range = coordinate y (omega arith); x_in_range = coordinate x (omega arith) }
 
-square_at : (x y : ℕ) → x < 524288 → y < 524288 → SomeRing (corners_at x y)
+square_at : (x y : ℕ) → x < CELLS → y < CELLS → SomeRing (corners_at x y)
 unfolding point_at
 square_at x y across up = record {
   ring = point_at x y (omega arith) (omega arith) ∷ point_at (x + 1) y (omega arith) (omega arith) ∷ point_at (x + 1) (y + 1) (omega arith) (omega arith) ∷ point_at x (y + 1) (omega arith) (omega arith) ∷ [];
@@ -83,8 +50,8 @@ ring_of_cell g is i =
     let few = is.few in
     let wide : g.columns * 1 ≤ g.columns * g.rows = mul-le g.columns 1 g.columns g.rows (omega arith) some_row in
     let high : 1 * g.rows ≤ g.columns * g.rows = mul-le 1 g.rows g.columns g.rows some_column (omega arith) in
-    let across : i % g.columns < 524288 = omega arith in
-    let up : g.rows - 1 - i / g.columns < 524288 = omega arith in
+    let across : i % g.columns < CELLS = omega arith in
+    let up : g.rows - 1 - i / g.columns < CELLS = omega arith in
     square_at (i % g.columns) (g.rows - 1 - i / g.columns) across up
 
 record SomeRings (g : Grid) (cells : List ℕ) : Type 0 where
@@ -132,11 +99,11 @@ areas_of_lists g is xs (suc k) most =
     subst (λ (n : ℕ). SomeAreas g xs n) (add-one k) after
 
 -- a grid has areas, or too many patches
-pub areas_of_patches : (g : Grid) → IsGrid g → (number : ℕ → Option ℕ) (count : ℕ) → ArePatches g number count → ((areas : List Area) × AreAreas g areas × (length areas ≤ 65536)) ⊎ HasManyPatches g
+pub areas_of_patches : (g : Grid) → IsGrid g → (number : ℕ → Option ℕ) (count : ℕ) → ArePatches g number count → ((areas : List Area) × AreAreas g areas × (length areas ≤ AREAS)) ⊎ HasManyPatches g
 areas_of_patches g is number count patches =
-    by_cases_of (nat_le count 65536) _
+    by_cases_of (nat_le count AREAS) _
     (λ e.
     let xs = members_of number count (length g.cells) patches.below in
     let some = areas_of_lists g is xs.0 count (let long = xs.1.long in omega arith) in
-    inl (some.areas, members_areas g number count xs.0 some.areas patches xs.1 some.long some.each, (let few : count ≤ 65536 = grind (arith, nat_tests) in let long = some.long in omega arith)))
+    inl (some.areas, members_areas g number count xs.0 some.areas patches xs.1 some.long some.each, (let few : count ≤ AREAS = grind (arith, nat_tests) in let long = some.long in omega arith)))
     (λ e. inr (record { number = number; count = count; patches = patches; many = grind (arith, nat_tests) }))

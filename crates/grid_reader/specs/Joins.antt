@@ -1,5 +1,5 @@
 -- The pairs of cells that are joined, cell by cell.
-use Rattle.std.specs.Prelude.{◌≡◌, ℕ, ◌<◌, List}
+use Rattle.std.specs.Prelude.{ℕ, ◌<◌, List}
 use Rattle.std.specs.List.{Contains}
 use Rattle.union_find.specs.Sets.{AreSets}
 use Rattle.grid_reader.specs.Grid.{Grid}

@@ -1,12 +1,12 @@
 -- A byte in front of what completes a state, where the byte leads to that state.
 use Rattle.std.proofs.Common.{◌≡◌, ◌⊎◌, ℕ, refl, sym, ap, ◌∙◌, subst, inl, inr, true, false, ◌||◌, ◌==◌, List, [], ◌∷◌, ◌++◌, append_assoc, Option}
+use Rattle.std.proofs.lemmas.Bool.{or_cases}
 use Rattle.std.proofs.lemmas.Bool.Decides.{Decides-eqb}
 use Rattle.json_text.specs.Tree.{Json, Str, Array, Object, Items, no_items, item, Members, no_members, member, items_of, members_of}
 use Rattle.json_text.specs.Modes.{is_space}
 use Rattle.json_text.specs.Stacks.{Opened, a_list, some_members, a_name, has_members}
 use Rattle.json_text.proofs.Completion.{Closes, Stands, Ends, EndsList, EndsMembers, ValueDue, ColonDue, NameDue, CloseDue, TextDue, items_before, members_before}
 use Rattle.json_text.specs.declared.character.Part.{Part}
-use Rattle.json_text.proofs.Cases.{either}
 
 -- ---- white space
 
@@ -14,9 +14,9 @@ abbrev pub IsSpaceByte : ℕ → Type 0
 IsSpaceByte b = (b ≡ 32) ⊎ (b ≡ 9) ⊎ (b ≡ 10) ⊎ (b ≡ 13)
 
 pub space_byte : (b : ℕ) → is_space b ≡ true → IsSpaceByte b
-space_byte b e = elim (either ((b == 32) || (b == 9) || (b == 10)) (b == 13) e) as (λ _. IsSpaceByte b) [
-  | inl f ↦ elim (either ((b == 32) || (b == 9)) (b == 10) f) as (λ _. IsSpaceByte b) [
-    | inl g ↦ elim (either (b == 32) (b == 9) g) as (λ _. IsSpaceByte b) [
+space_byte b e = elim (or_cases ((b == 32) || (b == 9) || (b == 10)) (b == 13) e) as (λ _. IsSpaceByte b) [
+  | inl f ↦ elim (or_cases ((b == 32) || (b == 9)) (b == 10) f) as (λ _. IsSpaceByte b) [
+    | inl g ↦ elim (or_cases (b == 32) (b == 9) g) as (λ _. IsSpaceByte b) [
       | inl h ↦ inl ((Decides-eqb b 32).0 h)
       | inr h ↦ inr (inl ((Decides-eqb b 9).0 h))
     ]

@@ -1,5 +1,6 @@
 -- What completes the state behind a byte, with the byte in front, completes the state before it, for each thing that is due but a text.
 use Rattle.std.proofs.Common.{◌≡◌, ◌⊎◌, ◌<◌, ◌≤◌, ◌+◌, ℕ, zero, suc, refl, sym, ap, ◌∙◌, subst, inl, inr, arith, true, false, cond, nat_lt, ◌==◌, ◌&&◌, ◌||◌, List, [], ◌∷◌, drop, length, drop-cons, Option, None, Some}
+use Rattle.std.proofs.lemmas.Bool.{and_parts, or_cases}
 use Rattle.std.specs.Prelude.{Err, slice_index}
 use Rattle.std.specs.Char.{is_ascii_digit}
 use Rattle.std.proofs.lemmas.Bool.Decides.{Decides-eqb, nat_tests}
@@ -15,7 +16,7 @@ use Rattle.json_text.specs.declared.character.Part.{Part}
 use Rattle.json_text.specs.declared.mode.Word.{Word}
 use Rattle.json_text.specs.declared.mode.Mode.{Mode}
 use Rattle.json_text.specs.declared.fault.Stop.TheVariants.{Bad}
-use Rattle.json_text.proofs.Cases.{by_cases_of, both, either}
+use Rattle.json_text.proofs.Cases.{by_cases_of}
 use Rattle.json_text.proofs.Completion.{Stands, ValueDue, ColonDue, NameDue, CloseDue}
 use Rattle.json_text.proofs.Back.{space_byte, value_spaced, colon_spaced, name_spaced, close_spaced, stands_spaced, name_begun}
 use Rattle.json_text.proofs.BackMembers.{WordDue, NumberDue, number_more, number_ended, stands_closes}
@@ -109,7 +110,7 @@ low_digit digit o b low = by_cases_of (is_ascii_digit b) _ (λ e. let small : b 
 
 low_letter : (b : ℕ) → Low (letter b) b
 low_letter b = by_cases_of ((b == 101) || (b == 69)) _
-    (λ e. let small : b < 128 = elim (either (b == 101) (b == 69) e) as (λ _. b < 128) [
+    (λ e. let small : b < 128 = elim (or_cases (b == 101) (b == 69) e) as (λ _. b < 128) [
       | inl f ↦ (let same : b ≡ 101 = (Decides-eqb b 101).0 f in omega arith)
       | inr f ↦ (let same : b ≡ 69 = (Decides-eqb b 69).0 f in omega arith)
     ] in rw e small)
@@ -117,7 +118,7 @@ low_letter b = by_cases_of ((b == 101) || (b == 69)) _
 
 low_sign : (b : ℕ) → Low (sign b) b
 low_sign b = by_cases_of ((b == 43) || (b == 45)) _
-    (λ e. let small : b < 128 = elim (either (b == 43) (b == 45) e) as (λ _. b < 128) [
+    (λ e. let small : b < 128 = elim (or_cases (b == 43) (b == 45) e) as (λ _. b < 128) [
       | inl f ↦ (let same : b ≡ 43 = (Decides-eqb b 43).0 f in omega arith)
       | inr f ↦ (let same : b ≡ 45 = (Decides-eqb b 45).0 f in omega arith)
     ] in rw e small)
@@ -163,7 +164,7 @@ pub word_back : (b : ℕ) (word : Word) (done : ℕ) (p q : Progress) (tree : Js
 word_back b word done p q tree rest e h =
     let text = word_text word in
     let t = taken (nat_lt done (length text) && (slice_index text done == b)) (cond (nat_lt (done + 1) (length text)) (made (go (Mode.Word word (done + 1)) p)) (made (end_value (word_value word) p))) q e in
-    let c = both (nat_lt done (length text)) (slice_index text done == b) t.0 in
+    let c = and_parts (nat_lt done (length text)) (slice_index text done == b) t.0 in
     let inside : done < length text = grind (arith, nat_tests) in
     let next : suc done ≡ done + 1 = omega arith in
     let first : drop done text ≡ b ∷ drop (done + 1) text = drop-cons text done 0 inside ∙ ap (λ (x : ℕ). x ∷ drop (suc done) text) ((Decides-eqb (slice_index text done) b).0 c.1) ∙ ap (λ (n : ℕ). b ∷ drop n text) next in

@@ -1,5 +1,6 @@
 -- What completes the state behind a byte, with the byte in front, completes the state before it.
 use Rattle.std.proofs.Common.{◌≡◌, ◌<◌, ℕ, refl, sym, ap, ◌∙◌, subst, inl, inr, arith, Bool, true, false, cond, ◌==◌, ◌&&◌, List, [], ◌∷◌, drop, length, Option, None, Some}
+use Rattle.std.proofs.lemmas.Bool.{and_parts}
 use Rattle.std.specs.Prelude.{Result, Ok, Err, nat_le}
 use Rattle.std.specs.Char.{is_ascii_digit}
 use Rattle.std.proofs.lemmas.Bool.Decides.{Decides-eqb, nat_tests}
@@ -15,7 +16,7 @@ use Rattle.json_text.specs.declared.mode.Begin.{Begin}
 use Rattle.json_text.specs.declared.mode.Mode.{Mode}
 use Rattle.json_text.specs.declared.fault.Stop.{Stop}
 use Rattle.json_text.specs.declared.fault.Stop.TheVariants.{Bad, Deep}
-use Rattle.json_text.proofs.Cases.{by_cases_of, both}
+use Rattle.json_text.proofs.Cases.{by_cases_of}
 use Rattle.json_text.proofs.Completion.{Completes, Closes, Stands, ValueDue, NameDue}
 use Rattle.json_text.proofs.Back.{list_closed, members_closed, list_comma, list_empty, list_begun, text_begun}
 use Rattle.json_text.proofs.BackMembers.{members_comma, members_empty, members_begun, null_begun, true_begun, false_begun, number_begun, stands_closes}
@@ -130,19 +131,19 @@ closed_back p q tree rest e h = stands_closes (drop 1 p.stack) p.root (tree_of_f
 pub behind_back : (b : ℕ) (p q : Progress) (tree : Json) (rest : List ℕ) → behind b p ≡ Ok q → CompletesIt q tree rest → Stands p.stack p.root tree (b ∷ rest)
 behind_back b p q tree rest e h =
     by_cases_of ((b == 44) && has_list p.stack) _
-    (λ f1. let t = both (b == 44) (has_list p.stack) f1 in
+    (λ f1. let t = and_parts (b == 44) (has_list p.stack) f1 in
     let r : made (go Mode.Value p) ≡ made q = sym (rw f1 refl) ∙ e in
     from 44 t.0 (comma_list p.stack p.root tree rest t.1 (moved (go Mode.Value p) q tree rest (it_is _ q r) h)))
     (λ f1. by_cases_of ((b == 44) && has_members p.stack) _
-    (λ f2. let t = both (b == 44) (has_members p.stack) f2 in
+    (λ f2. let t = and_parts (b == 44) (has_members p.stack) f2 in
     let r : made (go Mode.Name p) ≡ made q = sym (rw (f1, f2) refl) ∙ e in
     from 44 t.0 (comma_members p.stack p.root tree rest t.1 (moved (go Mode.Name p) q tree rest (it_is _ q r) h)))
     (λ f2. by_cases_of ((b == 93) && has_list p.stack) _
-    (λ f3. let t = both (b == 93) (has_list p.stack) f3 in
+    (λ f3. let t = and_parts (b == 93) (has_list p.stack) f3 in
     let r : made (close p) ≡ made q = sym (rw (f1, f2, f3) refl) ∙ e in
     from 93 t.0 (close_list p.stack p.root tree rest t.1 (closed_back p q tree rest r h)))
     (λ f3. by_cases_of ((b == 125) && has_members p.stack) _
-    (λ f4. let t = both (b == 125) (has_members p.stack) f4 in
+    (λ f4. let t = and_parts (b == 125) (has_members p.stack) f4 in
     let r : made (close p) ≡ made q = sym (rw (f1, f2, f3, f4) refl) ∙ e in
     from 125 t.0 (close_members p.stack p.root tree rest t.1 (closed_back p q tree rest r h)))
     (λ f4. absurd (let bad : Err Bad ≡ made q = sym (rw (f1, f2, f3, f4) refl) ∙ e in cc)))))

@@ -1,5 +1,5 @@
 -- Cases of tests.
-use Rattle.std.proofs.Common.{◌≡◌, ◌&&◌, ◌||◌, ◌⊎◌, Bool, true, false, refl, inl, inr}
+use Rattle.std.proofs.Common.{◌≡◌, Bool, true, false, refl}
 
 -- what holds at each value of a test holds
 pub by_cases_of : (b : Bool) (P : Type 0) → (b ≡ true → P) → (b ≡ false → P) → P
@@ -8,12 +8,3 @@ by_cases_of false P f g = g refl
 
 pub false_true : {P : Type 0} → false ≡ true → P
 false_true h = cc
-
-pub both : (a b : Bool) → (a && b) ≡ true → (a ≡ true) × (b ≡ true)
-both true true e = (refl, refl)
-both true false e = (cc, cc)
-both false b e = (cc, cc)
-
-pub either : (a b : Bool) → (a || b) ≡ true → (a ≡ true) ⊎ (b ≡ true)
-either true b e = inl refl
-either false b e = inr e

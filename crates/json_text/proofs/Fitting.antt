@@ -1,5 +1,6 @@
 -- The stack and the whole text's value are right for what is due, at each byte.
 use Rattle.std.proofs.Common.{◌≡◌, ℕ, refl, sym, subst, Bool, true, false, cond, ◌==◌, ◌&&◌, nat_lt, ◌+◌, List, [], ◌∷◌, length, drop, Option, None, Some}
+use Rattle.std.proofs.lemmas.Bool.{and_parts}
 use Rattle.std.specs.Prelude.{Result, Ok, Err, nat_le, slice_index}
 use Rattle.json_text.specs.Tree.{Json, Number, Str}
 use Rattle.json_text.specs.NumberSteps.{next_digit, is_whole}
@@ -12,7 +13,7 @@ use Rattle.json_text.specs.declared.character.Taken.{Taken}
 use Rattle.json_text.specs.declared.mode.Begin.{Begin}
 use Rattle.json_text.specs.declared.mode.Mode.{Mode}
 use Rattle.json_text.specs.declared.fault.Stop.{Stop}
-use Rattle.json_text.proofs.Cases.{by_cases_of, both}
+use Rattle.json_text.proofs.Cases.{by_cases_of}
 use Rattle.json_text.proofs.BackRun.{Fits}
 
 -- the whole text has a value only where it has ended
@@ -70,13 +71,13 @@ members_root (inner ∷ outer) root e h = h
 behind_fits : (b : ℕ) (p : Progress) → HasEnded Mode.After p.stack p.root → FitsOk (behind b p)
 behind_fits b p h =
     by_cases_of ((b == 44) && has_list p.stack) _
-    (λ f1. let t = both (b == 44) (has_list p.stack) f1 in rw f1 (no_members p.stack t.1, list_root p.stack p.root t.1 h))
+    (λ f1. let t = and_parts (b == 44) (has_list p.stack) f1 in rw f1 (no_members p.stack t.1, list_root p.stack p.root t.1 h))
     (λ f1. by_cases_of ((b == 44) && has_members p.stack) _
-    (λ f2. let t = both (b == 44) (has_members p.stack) f2 in rw (f1, f2) (t.1, members_root p.stack p.root t.1 h))
+    (λ f2. let t = and_parts (b == 44) (has_members p.stack) f2 in rw (f1, f2) (t.1, members_root p.stack p.root t.1 h))
     (λ f2. by_cases_of ((b == 93) && has_list p.stack) _
-    (λ f3. let t = both (b == 93) (has_list p.stack) f3 in rw (f1, f2, f3) (close_fits p (list_root p.stack p.root t.1 h)))
+    (λ f3. let t = and_parts (b == 93) (has_list p.stack) f3 in rw (f1, f2, f3) (close_fits p (list_root p.stack p.root t.1 h)))
     (λ f3. by_cases_of ((b == 125) && has_members p.stack) _
-    (λ f4. let t = both (b == 125) (has_members p.stack) f4 in rw (f1, f2, f3, f4) (close_fits p (members_root p.stack p.root t.1 h)))
+    (λ f4. let t = and_parts (b == 125) (has_members p.stack) f4 in rw (f1, f2, f3, f4) (close_fits p (members_root p.stack p.root t.1 h)))
     (λ f4. rw (f1, f2, f3, f4) tt))))
 
 after_fits : (limit b : ℕ) (p : Progress) → p.mode ≡ Mode.After → HasEnded Mode.After p.stack p.root → FitsOk (between limit Mode.After b p)

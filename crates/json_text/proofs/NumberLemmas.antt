@@ -1,5 +1,6 @@
 -- The test of a number of JSON is passed exactly by what the grammar allows.
 use Rattle.std.proofs.Common.{◌≡◌, ℕ, suc, ◌<◌, ◌==◌, ◌&&◌, ◌||◌, ◌⊎◌, nat_lt, not, refl, ap, sym, ◌∙◌, arith, rules, subst, inl, inr, Bool, true, false, List, [], ◌∷◌, ◌++◌, length, take, drop, append-nil}
+use Rattle.std.proofs.lemmas.Bool.{and_parts, or_cases}
 use Rattle.std.specs.Prelude.{slice_index, ◌↔◌}
 use Rattle.std.specs.Char.{is_ascii_digit}
 use Rattle.std.specs.List.{list_all}
@@ -10,7 +11,7 @@ use Rattle.std.proofs.lemmas.Str.Parse.{IsNumeralModel, numerals_by_value}
 use Rattle.std.proofs.Math.Seq.{drop-append_seam}
 use Rattle.json_text.specs.Numbers.{IsMinus, IsWholePart, IsFraction, IsExponent, IsJsonNumber}
 use Rattle.json_text.specs.NumberTest.{run, strip_sign, is_digits, is_power, is_fraction, is_rest, is_bare_number, is_json_number}
-use Rattle.json_text.proofs.Cases.{both, either, by_cases_of, false_true}
+use Rattle.json_text.proofs.Cases.{by_cases_of, false_true}
 
 own : IsNumeralModel (λ ds. list_all is_ascii_digit ds ≡ true) (digits_value 10)
 own = numerals_by_value _ (search rules)
@@ -25,7 +26,7 @@ run_digits : (ds rest : List ℕ) → list_all is_ascii_digit ds ≡ true → is
 run_digits [] [] all other = refl
 run_digits [] (x ∷ rest) all other = rw other refl
 run_digits (d ∷ ds) rest all other =
-    let parts = both (is_ascii_digit d) (list_all is_ascii_digit ds) all in
+    let parts = and_parts (is_ascii_digit d) (list_all is_ascii_digit ds) all in
     let more = run_digits ds rest parts.1 other in
     rw parts.0 (omega arith)
 
@@ -60,7 +61,7 @@ front_parts t = sym (take-append-drop (run t) t)
 
 digits_to : (t : List ℕ) → is_digits t ≡ true → IsNumeral 10 t
 digits_to t h =
-    let parts = both (nat_lt 0 (run t)) (run t == length t) h in
+    let parts = and_parts (nat_lt 0 (run t)) (run t == length t) h in
     let all : run t ≡ length t = (Decides-eqb (run t) (length t)).0 parts.1 in
     subst (λ (ds : List ℕ). IsNumeral 10 ds) (take_all (run t) t (omega arith)) (front_numeral t parts.0)
 
@@ -81,7 +82,7 @@ digits_from ds is =
 
 first_digit : (ds rest : List ℕ) → IsNumeral 10 ds → is_ascii_digit (slice_index (ds ++ rest) 0) ≡ true
 first_digit [] rest is = absurd (let some : 0 < 0 = is.0 in omega arith)
-first_digit (d ∷ ds) rest is = (both (is_ascii_digit d) (list_all is_ascii_digit ds) (own.from (d ∷ ds) is.1)).0
+first_digit (d ∷ ds) rest is = (and_parts (is_ascii_digit d) (list_all is_ascii_digit ds) (own.from (d ∷ ds) is.1)).0
 
 pub no_digit : (x c : ℕ) → is_ascii_digit x ≡ true → is_ascii_digit c ≡ false → (x == c) ≡ false
 no_digit x c e f = by_cases_of (x == c) _ (λ s. absurd (let same : x ≡ c = (Decides-eqb x c).0 s in false_true (sym f ∙ ap is_ascii_digit (sym same) ∙ e))) (λ s. s)
@@ -100,10 +101,10 @@ unsigned_parts (y ∷ t) =
 
 power_to : (t : List ℕ) → is_power t ≡ true → IsExponent t
 power_to [] h = inl refl
-power_to (x ∷ t) h = elim (either (length (x ∷ t) == 0) (((x == 101) || (x == 69)) && is_digits (strip_sign t)) h) as (λ _. IsExponent (x ∷ t)) [
+power_to (x ∷ t) h = elim (or_cases (length (x ∷ t) == 0) (((x == 101) || (x == 69)) && is_digits (strip_sign t)) h) as (λ _. IsExponent (x ∷ t)) [
   | inl e ↦ absurd (let none : length (x ∷ t) ≡ 0 = (Decides-eqb (length (x ∷ t)) 0).0 e in omega arith)
   | inr e ↦
-      (let parts = both ((x == 101) || (x == 69)) (is_digits (strip_sign t)) e in
+      (let parts = and_parts ((x == 101) || (x == 69)) (is_digits (strip_sign t)) e in
       let sign = unsigned_parts t in
       inr (record {
         letter = x;
@@ -117,7 +118,7 @@ power_to (x ∷ t) h = elim (either (length (x ∷ t) == 0) (((x == 101) || (x =
 ]
   where
     letter : (x : ℕ) → ((x == 101) || (x == 69)) ≡ true → (x ≡ 101) ⊎ (x ≡ 69)
-    letter x e = elim (either (x == 101) (x == 69) e) as (λ _. (x ≡ 101) ⊎ (x ≡ 69)) [ inl k ↦ inl ((Decides-eqb x 101).0 k) | inr k ↦ inr ((Decides-eqb x 69).0 k) ]
+    letter x e = elim (or_cases (x == 101) (x == 69) e) as (λ _. (x ≡ 101) ⊎ (x ≡ 69)) [ inl k ↦ inl ((Decides-eqb x 101).0 k) | inr k ↦ inr ((Decides-eqb x 69).0 k) ]
 
 unsigned_none : (t : List ℕ) → is_ascii_digit (slice_index t 0) ≡ true → strip_sign t ≡ t
 unsigned_none t e = rw (no_digit (slice_index t 0) 43 e refl, no_digit (slice_index t 0) 45 e refl) refl
@@ -167,7 +168,7 @@ rest_to t h =
     by_cases_of (slice_index t 0 == 46) _
     (λ e.
     let behind : is_fraction (drop 1 t) ≡ true = rw e at h in
-    let parts = both (nat_lt 0 (run (drop 1 t))) (is_power (drop (run (drop 1 t)) (drop 1 t))) behind in
+    let parts = and_parts (nat_lt 0 (run (drop 1 t))) (is_power (drop (run (drop 1 t)) (drop 1 t))) behind in
     record {
       fraction = 46 ∷ take (run (drop 1 t)) (drop 1 t);
       exponent = drop (run (drop 1 t)) (drop 1 t);
@@ -214,12 +215,12 @@ whole_to t ds is h =
     (λ e. inr (is, λ s. false_true (sym e ∙ (Decides-eqb (slice_index ds 0) 48).1 s)))
   where
     only : (n : ℕ) (b : Bool) → b ≡ true → ((n == 1) || not b) ≡ true → n ≡ 1
-    only n b e h = elim (either (n == 1) (not b) h) as (λ _. n ≡ 1) [ inl k ↦ (Decides-eqb n 1).0 k | inr k ↦ absurd (false_true (rw e at k)) ]
+    only n b e h = elim (or_cases (n == 1) (not b) h) as (λ _. n ≡ 1) [ inl k ↦ (Decides-eqb n 1).0 k | inr k ↦ absurd (false_true (rw e at k)) ]
 
 bare_to : (t : List ℕ) → is_bare_number t ≡ true → BareParts t
 bare_to t h =
-    let parts = both (nat_lt 0 (run t) && ((run t == 1) || not (slice_index t 0 == 48))) (is_rest (drop (run t) t)) h in
-    let front = both (nat_lt 0 (run t)) ((run t == 1) || not (slice_index t 0 == 48)) parts.0 in
+    let parts = and_parts (nat_lt 0 (run t) && ((run t == 1) || not (slice_index t 0 == 48))) (is_rest (drop (run t) t)) h in
+    let front = and_parts (nat_lt 0 (run t)) ((run t == 1) || not (slice_index t 0 == 48)) parts.0 in
     let ds = take (run t) t in
     let long : length ds ≡ run t = front_long t in
     let numeral : IsNumeral 10 ds = front_numeral t front.0 in

@@ -1,5 +1,6 @@
 -- What holds behind each byte: the stack's length is the count of open brackets and braces, and what is due can be completed.
 use Rattle.std.proofs.Common.{◌≡◌, ◌<◌, ◌≤◌, ◌+◌, ◌-◌, ℕ, refl, sym, ◌∙◌, subst, inl, inr, arith, Bool, true, false, cond, nat_lt, ◌==◌, ◌&&◌, ◌||◌, List, [], ◌∷◌, length, drop, Option, None, Some}
+use Rattle.std.proofs.lemmas.Bool.{and_parts, or_cases}
 use Rattle.std.specs.Prelude.{Result, Ok, Err, nat_le, slice_index}
 use Rattle.std.specs.Char.{is_ascii_digit}
 use Rattle.std.proofs.lemmas.Bool.Decides.{Decides-eqb, nat_tests}
@@ -19,7 +20,7 @@ use Rattle.json_text.specs.declared.mode.Word.{Word}
 use Rattle.json_text.specs.declared.mode.Mode.{Mode}
 use Rattle.json_text.specs.declared.fault.Stop.{Stop}
 use Rattle.json_text.specs.declared.fault.Stop.TheVariants.{Bad, Deep, Memory}
-use Rattle.json_text.proofs.Cases.{by_cases_of, both, either}
+use Rattle.json_text.proofs.Cases.{by_cases_of}
 use Rattle.json_text.proofs.CharacterFacts.{IsReached, due, more}
 use Rattle.json_text.proofs.Places.{place_in, place_of, Counts, counts_to, at_byte, digit_byte, space_stays, letter_stays}
 use Rattle.json_text.proofs.TextPlaces.{Turns, turns}
@@ -153,13 +154,13 @@ text_outcome limit b p = outcome_if limit (length p.stack) Outside b (b == 34) _
 behind_outcome : (limit b : ℕ) (p : Progress) → Outcome limit (length p.stack) Outside b (behind b p)
 behind_outcome limit b p =
     outcome_if limit (length p.stack) Outside b ((b == 44) && has_list p.stack) _ _
-    (λ f. stays limit Outside b p _ tt refl (comma (both (b == 44) (has_list p.stack) f).0))
+    (λ f. stays limit Outside b p _ tt refl (comma (and_parts (b == 44) (has_list p.stack) f).0))
     (λ f. outcome_if limit (length p.stack) Outside b ((b == 44) && has_members p.stack) _ _
-    (λ g. stays limit Outside b p _ tt refl (comma (both (b == 44) (has_members p.stack) g).0))
+    (λ g. stays limit Outside b p _ tt refl (comma (and_parts (b == 44) (has_members p.stack) g).0))
     (λ g. outcome_if limit (length p.stack) Outside b ((b == 93) && has_list p.stack) _ _
-    (λ h. close_moves limit b p (at_byte Outside (length p.stack) b 93 Outside (length p.stack - 1) (both (b == 93) (has_list p.stack) h).0 (λ rest. refl)))
+    (λ h. close_moves limit b p (at_byte Outside (length p.stack) b 93 Outside (length p.stack - 1) (and_parts (b == 93) (has_list p.stack) h).0 (λ rest. refl)))
     (λ h. outcome_if limit (length p.stack) Outside b ((b == 125) && has_members p.stack) _ _
-    (λ i. close_moves limit b p (at_byte Outside (length p.stack) b 125 Outside (length p.stack - 1) (both (b == 125) (has_members p.stack) i).0 (λ rest. refl)))
+    (λ i. close_moves limit b p (at_byte Outside (length p.stack) b 125 Outside (length p.stack - 1) (and_parts (b == 125) (has_members p.stack) i).0 (λ rest. refl)))
     (λ i. tt))))
   where
     comma : (b == 44) ≡ true → Counts Outside (length p.stack) b Outside (length p.stack)
@@ -214,7 +215,7 @@ taken_outcome limit part b p (Some Taken.Quote) r e h = end_text_moves limit (pl
 word_outcome : (limit : ℕ) (word : Word) (done b : ℕ) (p : Progress) → Outcome limit (length p.stack) Outside b (in_word word done b p)
 word_outcome limit word done b p =
     outcome_if limit (length p.stack) Outside b (nat_lt done (length (word_text word)) && (slice_index (word_text word) done == b)) _ _
-    (λ e. let t = both (nat_lt done (length (word_text word))) (slice_index (word_text word) done == b) e in
+    (λ e. let t = and_parts (nat_lt done (length (word_text word))) (slice_index (word_text word) done == b) e in
     let inside : done < length (word_text word) = grind (arith, nat_tests) in
     let letter = letter_stays word done (length p.stack) b inside t.1 in
     outcome_if limit (length p.stack) Outside b (nat_lt (done + 1) (length (word_text word))) _ _
@@ -232,7 +233,7 @@ or_digit_plain n digit o b h = by_cases_of (is_ascii_digit b) _ (λ e. rw e (dig
 
 letter_plain : (n b : ℕ) → Digit n (letter b) b
 letter_plain n b = by_cases_of ((b == 101) || (b == 69)) _
-    (λ e. rw e (elim (either (b == 101) (b == 69) e) as (λ _. Counts Outside n b Outside n) [
+    (λ e. rw e (elim (or_cases (b == 101) (b == 69) e) as (λ _. Counts Outside n b Outside n) [
       | inl f ↦ at_byte Outside n b 101 Outside n f (λ rest. refl)
       | inr f ↦ at_byte Outside n b 69 Outside n f (λ rest. refl)
     ]))
@@ -240,7 +241,7 @@ letter_plain n b = by_cases_of ((b == 101) || (b == 69)) _
 
 sign_plain : (n b : ℕ) → Digit n (sign b) b
 sign_plain n b = by_cases_of ((b == 43) || (b == 45)) _
-    (λ e. rw e (elim (either (b == 43) (b == 45) e) as (λ _. Counts Outside n b Outside n) [
+    (λ e. rw e (elim (or_cases (b == 43) (b == 45) e) as (λ _. Counts Outside n b Outside n) [
       | inl f ↦ at_byte Outside n b 43 Outside n f (λ rest. refl)
       | inr f ↦ at_byte Outside n b 45 Outside n f (λ rest. refl)
     ]))

@@ -1,5 +1,6 @@
 -- The bytes that make a whole character spell it, given the same of characters of several bytes and of codes.
 use Rattle.std.proofs.Common.{◌≡◌, ◌<◌, ◌≤◌, ◌⊎◌, ◌-◌, ℕ, refl, sym, ap, ◌∙◌, subst, inl, inr, arith, Bool, true, false, cond, ◌==◌, ◌||◌, List, [], ◌∷◌, Option, Some}
+use Rattle.std.proofs.lemmas.Bool.{or_cases}
 use Rattle.std.specs.Prelude.{Contains}
 use Rattle.std.specs.Char.{IsScalar, encode_utf8}
 use Rattle.std.proofs.lemmas.Bool.Decides.{Decides-eqb, nat_tests}
@@ -9,7 +10,6 @@ use Rattle.json_text.specs.Strings.{SpellsCharacter, plain, short, short_escapes
 use Rattle.json_text.specs.CharacterSteps.{first_byte, is_within}
 use Rattle.json_text.specs.declared.character.Part.{Part}
 use Rattle.json_text.specs.declared.character.Taken.{Taken}
-use Rattle.json_text.proofs.Cases.{either}
 use Rattle.json_text.proofs.Completion.{Finishes, FinishesOn}
 
 -- the same of a code of four hex digits, or of two, behind a backslash and the letter u
@@ -33,8 +33,8 @@ pub escape_back : CodeBack → (text : List ℕ) (character : ℕ) → Finishes 
 escape_back code [] character h = absurd h
 escape_back code (b ∷ bytes) character h =
     elim (on_if ((b == 34) || (b == 92) || (b == 47)) _ _ bytes character K h) as (λ _. Goal) [
-      | inl t ↦ elim (either ((b == 34) || (b == 92)) (b == 47) t.0) as (λ _. Goal) [
-        | inl u ↦ elim (either (b == 34) (b == 92) u) as (λ _. Goal) [
+      | inl t ↦ elim (or_cases ((b == 34) || (b == 92)) (b == 47) t.0) as (λ _. Goal) [
+        | inl u ↦ elim (or_cases (b == 34) (b == 92) u) as (λ _. Goal) [
           | inl s ↦ one_letter 34 34 bytes character b s (0, omega arith, refl) (omega arith) (sym ((Decides-eqb b 34).0 s) ∙ t.1.0, t.1.1)
           | inr s ↦ one_letter 92 92 bytes character b s (1, omega arith, refl) (omega arith) (sym ((Decides-eqb b 92).0 s) ∙ t.1.0, t.1.1)
         ]

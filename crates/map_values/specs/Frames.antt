@@ -1,5 +1,4 @@
 -- Frames that a written map may have.
-use Rattle.std.specs.Prelude.{ℕ, List}
 use Rattle.json_text.specs.Numbers.{IsJsonNumber}
 use Rattle.plane_edge.specs.declared.frame.Frame.{Frame}
 use Rattle.plane_edge.specs.declared.frame.Frame.TheVariants.{Plain, Scaled}

@@ -1,1 +1,6 @@
 pub mod Frames
+pub mod Layers
+pub mod Members
+pub mod Classes
+pub mod Positions
+pub mod Measured

@@ -8,9 +8,10 @@ use Rattle.plane_edge.specs.Rings.{Area}
 use Rattle.plane_edge.specs.declared.frame.Frame.TheVariants.{Plain, Scaled}
 use Rattle.topo_reader.specs.Arcs.{SpellsArc}
 use Rattle.topo_reader.specs.Rings.{SpellsRing, polygon}
-use Rattle.topo_reader.specs.Topology.{SpellsClass, IsPicked, SpellsTopology, collection, alone, by_text, by_number}
+use Rattle.map_values.specs.Classes.{SpellsClass, by_text, by_number}
+use Rattle.topo_reader.specs.Topology.{IsPicked, SpellsTopology, collection, alone}
 use Rattle.topo_reader.proofs.Pieces.{geometries, topology, only, whole, plainly, nought, one, two, minus_one, minus_two, limit, position, at, point, p, q, r, u, from}
-use Rattle.topo_reader.proofs.Values.{text_in, value_or}
+use Rattle.map_values.proofs.Values.{text_in, value_or}
 
 -- ---- class texts
 
@@ -232,12 +233,8 @@ one_area = record {
   places_are = collection refl refl;
   areas_are = (
     record {
-      properties = class_a;
-      value = Str (codes "a");
       rings = round_back ∷ [];
-      properties_are = refl;
-      value_is = refl;
-      class_is = by_text refl (omega arith) (omega arith);
+      class_is = record { properties = class_a; value = Str (codes "a"); properties_are = refl; value_is = refl; class_is = by_text refl (omega arith) (omega arith) };
       rings_are = polygon (array (array (Number (codes "-1") ∷ []) ∷ [])) refl refl (record { parts = array (Number (codes "-1") ∷ []) ∷ []; list = refl; each = (backwards, tt) });
       steps_are = refl;
     },
@@ -308,12 +305,8 @@ polygon_alone = record {
   places_are = alone no_collection refl;
   areas_are = (
     record {
-      properties = class_a;
-      value = Str (codes "a");
       rings = (p ∷ q ∷ r ∷ p ∷ []) ∷ [];
-      properties_are = refl;
-      value_is = refl;
-      class_is = by_text refl (omega arith) (omega arith);
+      class_is = record { properties = class_a; value = Str (codes "a"); properties_are = refl; value_is = refl; class_is = by_text refl (omega arith) (omega arith) };
       rings_are = polygon (array (array (Number (codes "0") ∷ []) ∷ [])) refl refl (record { parts = array (Number (codes "0") ∷ []) ∷ []; list = refl; each = (corner_ring, tt) });
       steps_are = refl;
     },

@@ -1,6 +1,19 @@
 -- one map for one value
-pub mod Values
 pub mod OneLayer
+-- rules in their order, and lists of what keeps them
+mod Exact
+mod ExactLists
+-- what is decided of values
+mod Decide
+mod DecideHead
+mod Forms
+mod Closed
+mod Edges
+-- one map or one first fault
+mod ExactArcs
+mod ExactPlaces
+mod PlaceLists
+pub mod Faulty
 -- worked examples
 mod Pieces
 mod Examples

@@ -1,29 +1,19 @@
 -- A value spells one map at most.
-use Rattle.std.proofs.Common.{◌≡◌, ◌∙◌, refl, sym, ap, ap₂, subst, ℕ, Bool, not, if◌then◌else◌, List, [], ◌∷◌, map, flat_map, get_or, ℤ, pos, ◌+ℤ◌}
+use Rattle.std.proofs.Common.{◌≡◌, ◌∙◌, refl, sym, ap, ap₂, subst, ℕ, Bool, not, if◌then◌else◌, List, [], ◌∷◌, flat_map, get_or, ℤ, pos, ◌+ℤ◌}
 use Rattle.std.specs.Prelude.{Option, None, Some, codes, count_by}
-use Rattle.std.specs.Fmt.{signed_decimal}
 use Rattle.std.specs.List.{AllByRecursion, AllZip, filter}
 use Rattle.json_text.specs.Tree.{Json, Number, Str, array, object, member_of}
-use Rattle.plane_edge.proofs.EqualLemmas.{points_equal, edges_equal}
-use Rattle.plane_edge.specs.Rings.{Area, ends_of, steps_of_ring}
-use Rattle.plane_edge.specs.declared.edge.Edge.{Edge}
+use Rattle.plane_edge.proofs.EqualLemmas.{points_equal}
+use Rattle.plane_edge.specs.Rings.{Area, steps_of_ring}
 use Rattle.plane_edge.specs.declared.frame.Frame.{Frame}
 use Rattle.plane_edge.specs.declared.frame.Frame.TheVariants.{Plain, Scaled}
 use Rattle.plane_edge.specs.declared.point.Point.{Point}
-use Rattle.topo_reader.specs.Arcs.{SpellsTransform, SpellsFrame, is_relative, SpellsPosition, SpellsPoint, SpellPoints, SpellsArc}
+use Rattle.topo_reader.specs.Arcs.{SpellsTransform, SpellsFrame, is_relative, SpellsPoint, SpellPoints, SpellsArc}
 use Rattle.topo_reader.specs.Rings.{path_of, SpellsPath, SpellsRing, SpellsPolygon, SpellsRings, polygon, polygons}
 use Rattle.plane_edge.specs.Paths.{points_along}
-use Rattle.topo_reader.specs.Topology.{Layer, SpellsClass, by_text, by_number, is_passed, SpellsArea, ArePlaces, collection, alone, HasOneName, IsPicked, OneLayer}
-use Rattle.topo_reader.proofs.Values.{some_same, one_answer, number_same, text_same, text_in, text_at, one_array, array_same, object_same, same_whole}
-
--- where each value has one partner at most, each list of values has one list of partners at most
-pub zip_one : {X Y : Type 0} (R : X → Y → Type 0) → ((x : X) (y z : Y) → R x y → R x z → y ≡ z) → (xs : List X) (ys zs : List Y) → AllZip R xs ys → AllZip R xs zs → ys ≡ zs
-zip_one R one [] [] [] s t = refl
-zip_one R one [] [] (z ∷ zs) s t = absurd t
-zip_one R one [] (y ∷ ys) zs s t = absurd s
-zip_one R one (x ∷ xs) [] zs s t = absurd s
-zip_one R one (x ∷ xs) (y ∷ ys) [] s t = absurd t
-zip_one {X = X} {Y = Y} R one (x ∷ xs) (y ∷ ys) (z ∷ zs) s t = ap₂ (λ (a : Y) (b : List Y). a ∷ b) (one x y z s.0 t.0) (zip_one R one xs ys zs s.1 t.1)
+use Rattle.topo_reader.specs.Topology.{is_passed, SpellsArea, ArePlaces, collection, alone, HasOneName, IsPicked, OneLayer}
+use Rattle.map_values.proofs.Values.{some_same, one_answer, number_same, text_in, text_at, one_array, array_same, object_same, same_whole}
+use Rattle.map_values.proofs.Unique.{zip_one, one_position, one_class_text, same_area, same_layer}
 
 -- ---- the frame
 
@@ -38,7 +28,7 @@ one_transform tree a b c d e f g h s t =
     let translate = one_pair (member_of tree (codes "translate")) c d g h s.translate t.translate in
     ap₂ (λ (x y : List ℕ). Scaled x y c d) scale.0 scale.1 ∙ ap₂ (λ (x y : List ℕ). Scaled e f x y) translate.0 translate.1
 
-one_frame : (tree : Json) (f g : Frame) → SpellsFrame tree f → SpellsFrame tree g → f ≡ g
+pub one_frame : (tree : Json) (f g : Frame) → SpellsFrame tree f → SpellsFrame tree g → f ≡ g
 one_frame tree Plain Plain s t = refl
 one_frame tree Plain (Scaled e f g h) s t = absurd (let never : None ≡ Some t.0 = sym s ∙ t.1 in cc)
 one_frame tree (Scaled a b c d) Plain s t = absurd (let never : None ≡ Some s.0 = sym t ∙ s.1 in cc)
@@ -48,17 +38,12 @@ one_frame tree (Scaled a b c d) (Scaled e f g h) s t =
 
 -- ---- arcs
 
-pub one_position : (tree : Json) (x y u v : ℤ) → SpellsPosition tree x y → SpellsPosition tree u v → (x ≡ u) × (y ≡ v)
-one_position tree x y u v s t =
-    let same = one_array tree (Number s.first ∷ Number s.second ∷ s.more) (Number t.first ∷ Number t.second ∷ t.more) s.list t.list in
-    (same_whole s.first t.first x u (ap (text_at 0) same) s.x_is t.x_is, same_whole s.second t.second y v (ap (text_at 1) same) s.y_is t.y_is)
-
-one_point : (x y : ℤ) (tree : Json) (p q : Point) → SpellsPoint x y tree p → SpellsPoint x y tree q → p ≡ q
+pub one_point : (x y : ℤ) (tree : Json) (p q : Point) → SpellsPoint x y tree p → SpellsPoint x y tree q → p ≡ q
 one_point x y tree p q s t =
     let same = one_position tree s.dx s.dy t.dx t.dy s.position t.position in
     points_equal p q (s.x_is ∙ ap (λ (d : ℤ). x +ℤ d) same.0 ∙ sym t.x_is) (s.y_is ∙ ap (λ (d : ℤ). y +ℤ d) same.1 ∙ sym t.y_is)
 
-one_path : (relative : Bool) (x y : ℤ) (trees : List Json) (ps qs : List Point) → SpellPoints relative x y trees ps → SpellPoints relative x y trees qs → ps ≡ qs
+pub one_path : (relative : Bool) (x y : ℤ) (trees : List Json) (ps qs : List Point) → SpellPoints relative x y trees ps → SpellPoints relative x y trees qs → ps ≡ qs
 one_path relative x y [] [] [] s t = refl
 one_path relative x y [] [] (q ∷ qs) s t = absurd t
 one_path relative x y [] (p ∷ ps) qs s t = absurd s
@@ -81,13 +66,13 @@ one_told arcs tree a b s t =
     let same = same_whole s.number t.number s.index t.index (number_same s.number t.number (sym s.is ∙ t.is)) s.whole t.whole in
     some_same a b (sym s.told ∙ ap (path_of arcs) same ∙ t.told)
 
-one_ring : (arcs : List (List Point)) (tree : Json) (a b : List Point) → SpellsRing arcs tree a → SpellsRing arcs tree b → a ≡ b
+pub one_ring : (arcs : List (List Point)) (tree : Json) (a b : List Point) → SpellsRing arcs tree a → SpellsRing arcs tree b → a ≡ b
 one_ring arcs tree a b s t =
     let same = one_array tree s.indexes t.indexes s.list t.list in
     let told = subst (λ (trees : List Json). AllZip (SpellsPath arcs) trees s.paths) same s.told in
     s.ring_is ∙ ap points_along (zip_one (SpellsPath arcs) (one_told arcs) t.indexes s.paths t.paths told t.told) ∙ sym t.ring_is
 
-one_polygon : (arcs : List (List Point)) (tree : Json) (a b : List (List Point)) → SpellsPolygon arcs tree a → SpellsPolygon arcs tree b → a ≡ b
+pub one_polygon : (arcs : List (List Point)) (tree : Json) (a b : List (List Point)) → SpellsPolygon arcs tree a → SpellsPolygon arcs tree b → a ≡ b
 one_polygon arcs tree a b s t =
     let same = one_array tree s.parts t.parts s.list t.list in
     zip_one (SpellsRing arcs) (one_ring arcs) t.parts a b (subst (λ (trees : List Json). AllZip (SpellsRing arcs) trees a) same s.each) t.each
@@ -97,7 +82,7 @@ other_types type is other =
     let never : ◌≡◌ {A = ℕ} 80 77 = ap (λ (tree : Json). get_or (text_in tree) 0 0) (one_answer type (Str (codes "Polygon")) (Str (codes "MultiPolygon")) is other) in
     absurd (cc)
 
-one_rings : (arcs : List (List Point)) (tree : Json) (a b : List (List Point)) → SpellsRings arcs tree a → SpellsRings arcs tree b → a ≡ b
+pub one_rings : (arcs : List (List Point)) (tree : Json) (a b : List (List Point)) → SpellsRings arcs tree a → SpellsRings arcs tree b → a ≡ b
 one_rings arcs tree a b (polygon part type is each) (polygon other type_2 is_2 each_2) =
     let same = one_answer (member_of tree (codes "arcs")) part other is is_2 in
     one_polygon arcs other a b (subst (λ (part : Json). SpellsPolygon arcs part a) same each) each_2
@@ -110,40 +95,11 @@ one_rings arcs tree a b (polygons parts lists type is each flat) (polygons other
 
 -- ---- areas
 
-one_class : (tree : Json) (a b : List ℕ) → SpellsClass tree a → SpellsClass tree b → a ≡ b
-one_class tree a b (by_text is some few) (by_text is_2 some_2 few_2) = text_same a b (sym is ∙ is_2)
-one_class tree a b (by_text is some few) (by_number digits n is_2 spells fits class) = absurd (let never : Str a ≡ Number digits = sym is ∙ is_2 in cc)
-one_class tree a b (by_number digits n is spells fits class) (by_text is_2 some few) = absurd (let never : Str b ≡ Number digits = sym is_2 ∙ is in cc)
-one_class tree a b (by_number digits n is spells fits class) (by_number others m is_2 spells_2 fits_2 class_2) =
-    class ∙ ap signed_decimal (same_whole digits others n m (number_same digits others (sym is ∙ is_2)) spells spells_2) ∙ sym class_2
-
-same_edge : (e f : Edge) → ends_of e ≡ ends_of f → e ≡ f
-same_edge e f same = edges_equal e f (record {
-  low_x = ap (λ ends. ends.0.x) same;
-  low_y = ap (λ ends. ends.0.y) same;
-  high_x = ap (λ ends. ends.1.x) same;
-  high_y = ap (λ ends. ends.1.y) same;
-})
-
-abbrev rest_of : List (Point × Point) → List (Point × Point)
-rest_of [] = []
-rest_of (step ∷ steps) = steps
-
-same_edges : (es fs : List Edge) → map ends_of es ≡ map ends_of fs → es ≡ fs
-same_edges [] [] same = refl
-same_edges [] (f ∷ fs) same = absurd (let never : [] ≡ ends_of f ∷ map ends_of fs = same in cc)
-same_edges (e ∷ es) [] same = absurd (let never : ends_of e ∷ map ends_of es ≡ [] = same in cc)
-same_edges (e ∷ es) (f ∷ fs) same =
-    ap₂ (λ (d : Edge) (ds : List Edge). d ∷ ds) (same_edge e f (ap (λ steps. get_or steps 0 (ends_of e)) same)) (same_edges es fs (ap rest_of same))
-
-one_area : (arcs : List (List Point)) (name : List ℕ) (tree : Json) (a b : Area) → SpellsArea arcs name tree a → SpellsArea arcs name tree b → a ≡ b
+pub one_area : (arcs : List (List Point)) (name : List ℕ) (tree : Json) (a b : Area) → SpellsArea arcs name tree a → SpellsArea arcs name tree b → a ≡ b
 one_area arcs name tree a b s t =
-    let properties = one_answer (member_of tree (codes "properties")) s.properties t.properties s.properties_are t.properties_are in
-    let value = one_answer (member_of t.properties name) s.value t.value (subst (λ (tree : Json). member_of tree name ≡ Some s.value) properties s.value_is) t.value_is in
-    let class = one_class t.value a.class b.class (subst (λ (tree : Json). SpellsClass tree a.class) value s.class_is) t.class_is in
+    let class = one_class_text tree name a.class b.class s.class_is t.class_is in
     let rings = one_rings arcs tree s.rings t.rings s.rings_are t.rings_are in
-    let steps = same_edges a.steps b.steps (s.steps_are ∙ ap (λ (rings : List (List Point)). flat_map steps_of_ring rings) rings ∙ sym t.steps_are) in
-    ap₂ (λ (class : List ℕ) (steps : List Edge). record { class = class; steps = steps }) class steps
+    same_area a b class (s.steps_are ∙ ap (λ (rings : List (List Point)). flat_map steps_of_ring rings) rings ∙ sym t.steps_are)
 
 -- ---- which object is read
 
@@ -173,11 +129,6 @@ one_picked objects None a b s t =
 
 abbrev pub kept : List Json → List Json
 kept places = filter (λ place. not (is_passed place)) places
-
-same_layer : (l m : Layer) → l.areas ≡ m.areas → l.passed ≡ m.passed → l.frame ≡ m.frame → l ≡ m
-same_layer l m areas passed frame =
-    ap₂ (λ (areas : List Area) (passed : ℕ). record { areas = areas; passed = passed; frame = l.frame }) areas passed
-    ∙ ap (λ (frame : Frame). record { areas = m.areas; passed = m.passed; frame = frame }) frame
 
 pub one_layer : OneLayer
 one_layer tree class named l m s t =

@@ -13,7 +13,8 @@ use Rattle.agg_base.proofs.WholeText.{behind_minus, spells}
 use Rattle.json_text.specs.Tree.{Json, Str, Number, array, object}
 use Rattle.plane_edge.specs.Coordinate.{IsCoordinate}
 use Rattle.plane_edge.specs.declared.point.Point.{Point}
-use Rattle.topo_reader.specs.Arcs.{SpellsPosition, SpellsPoint}
+use Rattle.map_values.specs.Positions.{SpellsPosition}
+use Rattle.topo_reader.specs.Arcs.{SpellsPoint}
 
 abbrev pub geometries : List Json → Json
 geometries places = object ((codes "type", Str (codes "GeometryCollection")) ∷ (codes "geometries", array places) ∷ [])

@@ -15,10 +15,13 @@ use Rattle.plane_edge.specs.declared.point.Point.{Point}
 use Rattle.topo_reader.specs.Arcs.{SpellsFrame, SpellPoints, SpellsArc, is_relative}
 use Rattle.topo_reader.specs.Rings.{path_of, SpellsPath, SpellsRing, SpellsPolygon, SpellsRings, polygon, polygons}
 use Rattle.plane_edge.specs.Paths.{AreJoined}
-use Rattle.topo_reader.specs.Topology.{Layer, SpellsClass, by_text, by_number, is_passed, SpellsArea, ArePlaces, collection, IsPicked, SpellsTopology}
-use Rattle.topo_reader.proofs.OneLayer.{zip_one, one_position, one_told, one_picked, one_places, other_types, kept}
+use Rattle.map_values.specs.Layers.{Layer}
+use Rattle.map_values.specs.Classes.{SpellsClass, by_text, by_number}
+use Rattle.map_values.proofs.Unique.{zip_one, one_position}
+use Rattle.topo_reader.specs.Topology.{is_passed, SpellsArea, ArePlaces, collection, IsPicked, SpellsTopology}
+use Rattle.topo_reader.proofs.OneLayer.{one_told, one_picked, one_places, other_types, kept}
 use Rattle.topo_reader.proofs.Pieces.{geometries, topology, only, whole, nought, one, minus_two, limit, position, at, p, q, r}
-use Rattle.topo_reader.proofs.Values.{some_same, one_answer, number_same, text_same, one_array, object_same, same_whole, front_spells}
+use Rattle.map_values.proofs.Values.{some_same, one_answer, number_same, text_same, one_array, object_same, same_whole, front_spells}
 
 -- ---- class texts
 

@@ -1,10 +1,10 @@
 -- The arcs of a topology, and its frame.
 use Rattle.std.specs.Prelude.{◌≡◌, ◌≤◌, ℕ, Bool, true, false, if◌then◌else◌, List, [], ◌∷◌, length, Some, None, codes, ℤ, pos, ◌+ℤ◌}
-use Rattle.agg_base.specs.Numbers.{SpellsWhole}
 use Rattle.json_text.specs.Tree.{Json, Number, array, member_of}
 use Rattle.plane_edge.specs.declared.frame.Frame.{Frame}
 use Rattle.plane_edge.specs.declared.frame.Frame.TheVariants.{Plain, Scaled}
 use Rattle.plane_edge.specs.declared.point.Point.{Point}
+use Rattle.map_values.specs.Positions.{SpellsPosition}
 
 -- the transform has a scale and a translate of exactly two numbers each; the frame keeps their characters
 pub record SpellsTransform (transform : Json) (sx sy tx ty : List ℕ) : Type 0 where
@@ -20,15 +20,6 @@ SpellsFrame topology (Scaled sx sy tx ty) = (transform : Json) × (member_of top
 abbrev pub is_relative : Frame → Bool
 is_relative Plain = false
 is_relative (Scaled sx sy tx ty) = true
-
--- a list that begins with two whole numbers
-pub record SpellsPosition (tree : Json) (x y : ℤ) : Type 0 where
-  pub first : List ℕ
-  pub second : List ℕ
-  pub more : List Json
-  pub list : tree ≡ array (Number first ∷ Number second ∷ more)
-  pub x_is : SpellsWhole first x
-  pub y_is : SpellsWhole second y
 
 -- the position, added to these coordinates, is the point
 pub record SpellsPoint (x y : ℤ) (tree : Json) (p : Point) : Type 0 where

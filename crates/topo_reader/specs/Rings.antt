@@ -1,5 +1,5 @@
 -- The rings of a geometry, told by indexes of arcs.
-use Rattle.std.specs.Prelude.{◌≡◌, ◌-◌, ◌<◌, ℕ, List, [], ◌∷◌, ◌++◌, length, drop, reverse, flat_map, slice_get, Option, Some, option_map, codes, ℤ, pos, negsuc}
+use Rattle.std.specs.Prelude.{◌≡◌, ◌<◌, ℕ, List, length, reverse, flat_map, slice_get, Option, Some, option_map, codes, ℤ, pos, negsuc}
 use Rattle.std.specs.List.{AllZip}
 use Rattle.agg_base.specs.Numbers.{SpellsWhole}
 use Rattle.json_text.specs.Tree.{Json, Number, Str, array, member_of}

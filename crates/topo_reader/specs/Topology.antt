@@ -1,37 +1,15 @@
 -- Topologies of TopoJSON, and the areas that they spell.
-use Rattle.std.specs.Prelude.{◌≡◌, ◌≤◌, ℕ, Bool, true, false, not, ◌||◌, List, [], ◌∷◌, length, map, flat_map, count_by, Option, Some, None, codes, ℤ, FitsSigned}
-use Rattle.std.specs.Int.{w64}
+use Rattle.std.specs.Prelude.{◌≡◌, ◌≤◌, ℕ, Bool, not, ◌||◌, List, [], ◌∷◌, length, map, flat_map, count_by, Option, Some, None, codes}
 use Rattle.std.specs.List.{AllByRecursion, AllZip, filter}
-use Rattle.std.specs.Fmt.{signed_decimal}
 use Rattle.agg_base.specs.declared.limits.TheConstants.{AREAS, STEPS}
-use Rattle.agg_base.specs.Numbers.{SpellsWhole}
-use Rattle.json_text.specs.Tree.{Json, Null, Truth, Number, Str, Array, Object, array, object, member_of}
-use Rattle.plane_edge.specs.declared.frame.Frame.{Frame}
+use Rattle.json_text.specs.Tree.{Json, Str, array, object, member_of}
 use Rattle.plane_edge.specs.declared.point.Point.{Point}
 use Rattle.plane_edge.specs.Rings.{Area, ends_of, steps_of_ring, step_count}
+use Rattle.map_values.specs.Layers.{Layer}
+use Rattle.map_values.specs.Members.{is_null}
+use Rattle.map_values.specs.Classes.{HasClass}
 use Rattle.topo_reader.specs.Arcs.{SpellsFrame, is_relative, SpellsArc}
 use Rattle.topo_reader.specs.Rings.{SpellsRings}
-
--- a map: its areas in order, how many of its members have no area and are passed over, and its frame
-pub record Layer : Type 0 where
-  pub areas : List Area
-  pub passed : ℕ
-  pub frame : Frame
-
--- a class text: a text of 1 to 100 bytes, or a whole number of 64 bits, which stands for its decimal spelling
-pub data SpellsClass (tree : Json) (class : List ℕ) : Type 0 where
-  by_text : tree ≡ Str class → 1 ≤ length class → length class ≤ 100 → SpellsClass tree class
-  by_number : (digits : List ℕ) (n : ℤ) → tree ≡ Number digits → SpellsWhole digits n → FitsSigned w64 n → class ≡ signed_decimal n → SpellsClass tree class
-
--- the value is there and is null
-abbrev pub is_null : Option Json → Bool
-is_null None = false
-is_null (Some Null) = true
-is_null (Some (Truth _)) = false
-is_null (Some (Number _)) = false
-is_null (Some (Str _)) = false
-is_null (Some (Array _)) = false
-is_null (Some (Object _)) = false
 
 -- a geometry is passed over where it is null, or its type is
 abbrev pub is_passed : Json → Bool
@@ -39,12 +17,8 @@ is_passed tree = is_null (Some tree) || is_null (member_of tree (codes "type"))
 
 -- One area: its class text stands among the properties under the name, and its steps are those of all rings of non-zero length.
 pub record SpellsArea (arcs : List (List Point)) (name : List ℕ) (tree : Json) (area : Area) : Type 0 where
-  pub properties : Json
-  pub value : Json
   pub rings : List (List Point)
-  pub properties_are : member_of tree (codes "properties") ≡ Some properties
-  pub value_is : member_of properties name ≡ Some value
-  pub class_is : SpellsClass value area.class
+  pub class_is : HasClass tree name area.class
   pub rings_are : SpellsRings arcs tree rings
   pub steps_are : map ends_of area.steps ≡ flat_map steps_of_ring rings
 

@@ -1,8 +1,8 @@
 //! Maps as TopoJSON 1.0: which values of JSON spell which areas.
 //!
 //! `SpellsTopology` of `specs/Topology.antt` says that a value of JSON is a topology whose picked object has these
-//! areas. What is written as TopoJSON and what is read from it are both measured against it. A value spells one map
-//! at most.
+//! areas. What is written as TopoJSON and what is read from it are both measured against it. `IsFirstFault` of
+//! `specs/Faults.antt` names the first rule that a value breaks. A value spells one map or has one first fault.
 //!
 //! Of TopoJSON this is read: coordinates that are whole numbers within 2^30 of 0, after the transform's sums; a
 //! transform, whose four numbers keep their characters; the geometries Polygon and MultiPolygon of the picked object,
@@ -10,8 +10,10 @@
 //! areas with 2,097,152 steps together. Geometries that are null, or whose type is null, are passed over and counted.
 #![tactic(auto)]
 
+mod fault;
 mod laws;
 mod pick;
 
-pub use laws::one_layer_law;
+pub use fault::TopoFault;
+pub use laws::{layer_or_fault, layer_without_fault, one_fault, one_layer_law};
 pub use pick::Pick;

@@ -1,5 +1,6 @@
 use Rattle.std.proofs.Common.{◌≤◌, sym, ap, arith, length, subst, List}
 use Rattle.std.specs.BTreeMap.{get}
+use Rattle.agg_base.specs.declared.limits.TheConstants.{STEPS}
 use Rattle.plane_edge.specs.declared.edge.Edge.{Edge}
 use Rattle.plane_edge.specs.Edges.{IsRisingEdges}
 use Rattle.coverage_check.specs.Kept.{odds_of}
@@ -14,7 +15,7 @@ add_area-requires-clause-rising c =
 
 pub add_area-requires-clause-few : goal.add_area-requires-clause-few
 add_area-requires-clause-few c =
-    subst (λ (es : List Edge). length es ≤ 2097152) (sym c.odd.ensures) (few_of c.args.checked.now.areas c.loop-area.area 2097152 (omega arith) c.areas-area-end.ensures.rules.few_edges)
+    subst (λ (es : List Edge). length es ≤ STEPS) (sym c.odd.ensures) (few_of c.args.checked.now.areas c.loop-area.area STEPS (omega arith) c.areas-area-end.ensures.rules.few_edges)
 
 pub loop-area-preserved : goal.loop-area-preserved
 loop-area-preserved c =

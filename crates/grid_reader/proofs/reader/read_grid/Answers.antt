@@ -1,4 +1,5 @@
 use Rattle.std.proofs.Common.{◌≡◌, ◌≤◌, ◌*◌, ℕ, length, arith, subst}
+use Rattle.agg_base.specs.declared.limits.TheConstants.{TEXT_BYTES}
 use Rattle.agg_base.specs.Lines.{rows_from}
 use Rattle.grid_reader.specs.Body.{body_of, IsBodyFault}
 use Rattle.grid_reader.specs.Cells.{body_words}
@@ -38,7 +39,7 @@ read_body-requires-clause-room c =
     let body = body_of c.in_ok-first.first c.read_header.new.rest in
     let ends : EndsHeader new_draft (rows_from 1 text) head body = header_ends new_draft head (rows_from 1 text) c.in_ok-first.first c.read_header.new.rest (rw (c.start-draft.ensures, c.lines-rest.ensures) at c.in_ok-first.ensures.ended) in
     let room = words_room text head body ends in
-    let short : length text ≤ 536870912 = c.requires in
+    let short : length text ≤ TEXT_BYTES = c.requires in
     omega arith
 
 pub returns-in_err-cells-clause-fault : goal.returns-in_err-cells-clause-fault

@@ -1,0 +1,6 @@
+pub mod Features
+pub mod Areas
+pub mod Collections
+pub mod Adds
+pub mod Rules
+pub mod Faults
