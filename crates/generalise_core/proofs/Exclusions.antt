@@ -7,14 +7,15 @@ use Rattle.generalise_core.specs.Certificates.{Outcome}
 use Rattle.generalise_steps.specs.Refusals.{Refuses}
 use Rattle.generalise_steps.proofs.LoadLemmas.{one_load}
 use Rattle.generalise_steps.proofs.RefusalLemmas.{loaded_not_refused}
-use Rattle.generalise_core.specs.Answers.{AcceptsTexts, States}
+use Rattle.generalise_core.specs.Answers.{AcceptsTexts}
+use Rattle.root_answer.specs.Answers.{States}
 use Rattle.generalise_core.proofs.DraftLemmas.{one_request}
 use Rattle.generalise_core.specs.Stops.{line_of, status_of_stop}
 use Rattle.agg_base.specs.declared.limits.TheConstants.{MAP_BYTES, TABLE_BYTES}
 use Rattle.shelf_io.specs.State.{ShelfState}
 use Rattle.generalise_core.specs.FileTexts.{IsText, IsTooLong, RefusesFiles, long_map, long_table, texts, AnswersFiles, AcceptsFiles, AcceptsTold, RefusesTold}
 use Rattle.generalise_core.specs.Plans.{StopsFiles}
-use Rattle.generalise_core.specs.declared.outcome.Kind.TheVariants.{Hopeless}
+use Rattle.cert_text.specs.declared.certificate.CertStatus.TheVariants.{Hopeless}
 use Rattle.generalise_core.specs.declared.stop.Stop.{Stop}
 use Rattle.generalise_core.specs.declared.stop.Stop.TheVariants as stop
 use Rattle.generalise_core.specs.declared.status.Status.TheVariants as status
@@ -68,20 +69,20 @@ one_problem m r p q a b =
 
 -- what is stated of the problem of told files
 stated_problem : (files : Option Files) (words : List (List ℕ)) (r : Request) (s : Outcome) (p : Problem)
-    → Spells words r → AnswersFiles files r s → AcceptsTold files words p → States p s
+    → Spells words r → AnswersFiles files r s → AcceptsTold files words p → States p s.certificate
 stated_problem files words r s p spelled answered problem =
     let same : problem.request ≡ r = one_request words problem.request r problem.spelled spelled in
     let here : AnswersFiles (Some problem.told) r s = subst (λ f. AnswersFiles f r s) problem.told_is answered in
     let one : here.answers.problem ≡ p = one_problem problem.told r here.answers.problem p (accepts_of (Some problem.told) r s here) (subst (λ q. AcceptsFiles (Some problem.told) q p) same problem.accepts) in
-    subst (λ q. States q s) one here.answers.answers.states
+    subst (λ q. States q s.certificate) one here.answers.answers.states
 
 -- where no grouping is feasible, that is what is stated
 pub stated_hopeless : (files : Option Files) (words : List (List ℕ)) (r : Request) (s : Outcome) (p : Problem)
-    → Spells words r → AnswersFiles files r s → AcceptsTold files words p → ((g : Grouping) → ¬ IsFeasible p g) → s.kind ≡ Hopeless
+    → Spells words r → AnswersFiles files r s → AcceptsTold files words p → ((g : Grouping) → ¬ IsFeasible p g) → s.certificate.status ≡ Hopeless
 stated_hopeless files words r s p spelled answered problem never =
     elim (stated_problem files words r s p spelled answered problem).1 [
-      | inl grouped ↦ absurd (never s.grouping grouped.feasible)
-      | inr none ↦ none.kind
+      | inl grouped ↦ absurd (never s.certificate.grouping grouped.feasible)
+      | inr none ↦ none.status
     ]
 
 -- ---- where nothing is stored

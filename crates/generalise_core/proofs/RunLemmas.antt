@@ -4,7 +4,7 @@ use Rattle.shelf_io.specs.Files.{with_said, IsPartlySpoken}
 use Rattle.shelf_io.specs.Causes.{HasRisen}
 use Rattle.shelf_io.specs.State.{ShelfState}
 use Rattle.generalise_core.specs.Words.{Request, Spells}
-use Rattle.generalise_core.specs.Certificates.{Outcome, certificate, report}
+use Rattle.generalise_core.specs.Certificates.{Outcome, report}
 use Rattle.generalise_core.specs.Texts.{text_of}
 use Rattle.generalise_core.specs.Stops.{line_of, status_of_stop, usage_line}
 use Rattle.generalise_core.specs.Puts.{all_stored, IsPartlyPut}
@@ -12,8 +12,9 @@ use Rattle.generalise_core.specs.States.{with_line, OnlyFetches, OnlySays}
 use Rattle.generalise_core.specs.Runs.{map_due, dues, IsHeard, IsDueLine, usage, refusal, map_missed, table_missed, reported, MissesMap, MissesTable, OnlyMisses, KeepsPartly, SaysRefusal, SaysReadFault}
 use Rattle.generalise_core.specs.Plans.{StopsFiles, PlansFiles, Writes}
 use Rattle.generalise_core.specs.Codes.{status_of, MayEndAs, MayFailAs}
-use Rattle.generalise_core.specs.declared.outcome.Kind.{Kind}
-use Rattle.generalise_core.specs.declared.outcome.Kind.TheVariants.{Done}
+use Rattle.cert_text.specs.CertTexts.{spelling}
+use Rattle.cert_text.specs.declared.certificate.CertStatus.{CertStatus}
+use Rattle.cert_text.specs.declared.certificate.CertStatus.TheVariants.{Optimal}
 use Rattle.generalise_core.specs.declared.plan.Plan.{Plan}
 use Rattle.generalise_core.specs.declared.stop.Stop.{Stop}
 use Rattle.generalise_core.specs.declared.stop.Stop.TheVariants as stop
@@ -56,7 +57,7 @@ heard_stop old between new words r why spelled is fetches says part =
 pub due_is : (r : Request) (plan : Plan) (s : Outcome) → Writes plan s → (r.certificate, plan.certificate.items) ∷ map_due r.out (text_of plan.map) ≡ dues r s
 due_is r plan s writes =
     ap (λ t. (r.certificate, t) ∷ map_due r.out (text_of plan.map)) writes.certificate_is
-    ∙ ap (λ m. (r.certificate, certificate s) ∷ map_due r.out m) writes.map_is
+    ∙ ap (λ m. (r.certificate, spelling s.certificate) ∷ map_due r.out m) writes.map_is
 
 pub heard_report : (old between new : ShelfState) (words : List (List ℕ)) (r : Request) (plan : Plan)
     → Spells words r → PlansFiles old.files r plan → between ≡ old
@@ -90,15 +91,15 @@ partly_kept old between new words r plan spelled plans same part =
 
 -- ---- statuses
 
-pub ends_as : (kind wanted : Kind) (result : Status) → kind ≡ wanted → MayEndAs (status_of kind) result → MayFailAs (status_of wanted) result
+pub ends_as : (kind wanted : CertStatus) (result : Status) → kind ≡ wanted → MayEndAs (status_of kind) result → MayFailAs (status_of wanted) result
 ends_as kind wanted result e may = subst (λ k. MayFailAs (status_of k) result) e (inr may)
 
 pub fails_as : (wanted ends result : Status) → ends ≡ status.ReadFault → MayEndAs ends result → MayFailAs wanted result
 fails_as wanted ends result e may =
     elim may [ inl same ↦ inl (same ∙ e) | inr other ↦ inr (inr other) ]
 
-pub fails_any : (ends result : Status) → ends ≡ status.ReadFault → MayEndAs ends result → (kind : Kind) × MayFailAs (status_of kind) result
-fails_any ends result e may = (Done, fails_as (status_of Done) ends result e may)
+pub fails_any : (ends result : Status) → ends ≡ status.ReadFault → MayEndAs ends result → (kind : CertStatus) × MayFailAs (status_of kind) result
+fails_any ends result e may = (Optimal, fails_as (status_of Optimal) ends result e may)
 
 -- what the run ends with is what stopped it, where that is neither a fault of putting nor out of memory
 ended : (ends result wanted : Status) → MayEndAs ends result → result ≡ wanted → wanted ≢ status.WriteFault → wanted ≢ status.Memory → ends ≡ wanted

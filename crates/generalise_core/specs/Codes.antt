@@ -2,8 +2,8 @@
 use Rattle.std.specs.Prelude.{◌≡◌, ◌⊎◌, ℕ}
 use Rattle.generalise_core.specs.declared.status.Status.{Status}
 use Rattle.generalise_core.specs.declared.status.Status.TheVariants.{Done, Within, Hopeless, Usage, Refused, Memory, ReadFault, WriteFault}
-use Rattle.generalise_core.specs.declared.outcome.Kind.{Kind}
-use Rattle.generalise_core.specs.declared.outcome.Kind.TheVariants as kind
+use Rattle.cert_text.specs.declared.certificate.CertStatus.{CertStatus}
+use Rattle.cert_text.specs.declared.certificate.CertStatus.TheVariants as cert
 
 abbrev pub code_of : Status → ℕ
 code_of Done = 0
@@ -16,10 +16,10 @@ code_of ReadFault = 74
 code_of WriteFault = 75
 
 -- the status of a run that put all out
-abbrev pub status_of : Kind → Status
-status_of kind.Done = Done
-status_of kind.Within = Within
-status_of kind.Hopeless = Hopeless
+abbrev pub status_of : CertStatus → Status
+status_of cert.Optimal = Done
+status_of cert.Within = Within
+status_of cert.Hopeless = Hopeless
 
 -- a grouping was found
 abbrev pub HasGrouping : Status → Type 0

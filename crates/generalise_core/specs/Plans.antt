@@ -4,9 +4,10 @@ use Rattle.agg_base.specs.declared.limits.TheConstants.{MAP_BYTES, TABLE_BYTES}
 use Rattle.shelf_io.specs.Files.{Files}
 use Rattle.shelf_io.specs.State.{ShelfState}
 use Rattle.generalise_steps.specs.Refusals.{Refuses}
+use Rattle.cert_text.specs.CertTexts.{spelling}
 use Rattle.generalise_core.specs.Texts.{text_of}
 use Rattle.generalise_core.specs.Words.{Request}
-use Rattle.generalise_core.specs.Certificates.{Outcome, certificate, report}
+use Rattle.generalise_core.specs.Certificates.{Outcome, report}
 use Rattle.generalise_core.specs.Answers.{AnswersTexts}
 use Rattle.generalise_core.specs.FileTexts.{AnswersFiles, IsText, IsTooLong}
 use Rattle.generalise_core.specs.Runs.{MissesMap, MissesTable}
@@ -19,8 +20,8 @@ use Rattle.generalise_core.specs.declared.stop.Stop.TheVariants as stop
 
 -- the plan's texts state this
 pub record Writes (plan : Plan) (s : Outcome) : Type 0 where
-  pub kind : plan.kind ≡ s.kind
-  pub certificate_is : plan.certificate.items ≡ certificate s
+  pub status : plan.status ≡ s.certificate.status
+  pub certificate_is : plan.certificate.items ≡ spelling s.certificate
   pub report_is : plan.report.items ≡ report s
   pub map_is : text_of plan.map ≡ s.map
 

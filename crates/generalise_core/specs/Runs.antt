@@ -8,8 +8,9 @@ use Rattle.agg_model.specs.Problem.{Problem}
 use Rattle.class_table.specs.Table.{Table}
 use Rattle.coverage_check.specs.Checked.{Checked}
 use Rattle.generalise_steps.specs.Loads.{Loads}
+use Rattle.cert_text.specs.CertTexts.{spelling}
 use Rattle.generalise_core.specs.Words.{Request, Spells}
-use Rattle.generalise_core.specs.Certificates.{Outcome, certificate, report}
+use Rattle.generalise_core.specs.Certificates.{Outcome, report}
 use Rattle.generalise_core.specs.FileTexts.{IsText, AnswersFiles, RefusesFiles}
 use Rattle.generalise_core.specs.Stops.{usage_line}
 use Rattle.generalise_core.specs.Puts.{Due, all_stored, IsPartlyPut}
@@ -22,7 +23,7 @@ map_due out (Some text) = (out, text) ∷ []
 
 -- what is due to be stored, in this order: the certificate, and then the map
 abbrev pub dues : Request → Outcome → List Due
-dues r s = (r.certificate, certificate s) ∷ map_due r.out s.map
+dues r s = (r.certificate, spelling s.certificate) ∷ map_due r.out s.map
 
 -- ---- a run that answers
 

@@ -32,5 +32,5 @@ pub(crate) fn decide<S: Shelf, W: Crew>(
         Err(Fetch::TooLong) => return Err(NoPlan::Stopped(Stop::TableTooLong)),
         Err(Fetch::Memory) => return Err(NoPlan::Memory),
     };
-    make_plan(alloc, &map, &table, crew)
+    make_plan(alloc, map, table, crew)
 }

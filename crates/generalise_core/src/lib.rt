@@ -1,11 +1,10 @@
 //! The program's top call: from the words and the files to the certificate and the report.
 #![tactic(auto)]
 
-mod certificate;
 mod decision;
 mod draft;
-mod outcome;
 mod plan;
+mod report;
 mod status;
 mod stop;
 mod text;
@@ -13,7 +12,6 @@ mod top;
 mod words;
 
 use decision::decide;
-use outcome::{Kind, Leaf, Outcome};
 use plan::{NoPlan, Plan, make_plan};
 pub use status::Status;
 use stop::Stop;

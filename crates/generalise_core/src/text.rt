@@ -1,8 +1,8 @@
 // Texts that are made of lines, one piece after another.
-ghost use Rattle.std.specs.Prelude.{◌≡◌, ◌++◌, ◌∷◌, [], map, pos, OnOk};
+ghost use Rattle.std.specs.Prelude.{◌≡◌, ◌++◌, ◌∷◌, [], OnOk};
 ghost use Rattle.std.specs.Fmt.{decimal, signed_decimal};
 ghost use Rattle.agg_base.specs.Texts.{text_of_lines};
-ghost use Rattle.generalise_core.specs.Certificates.{number_or_dash, region_line, area_line, escape_line, spaced_numbers};
+ghost use Rattle.cert_text.specs.Lines.{number_or_dash};
 
 use agg_base::{NoMemory, print_signed};
 
@@ -47,76 +47,4 @@ pub(crate) fn push_number_or_dash(
             push_line(out, b"-")
         }
     }
-}
-
-/// Appends a line for each region, with its class.
-pub(crate) fn push_classes(out: &mut Vec<u8>, classes: &[u8]) -> Result<(), NoMemory>
-    ensures { OnOk result (out.new.items ≡ out.old.items ++ text_of_lines (map region_line classes.now)) }
-{
-    for class in classes {
-        push_count(out, b"r ", u32::from(*class))?;
-    }
-    Ok(())
-}
-
-/// Appends a line for each area, with its region.
-pub(crate) fn push_regions(out: &mut Vec<u8>, regions: &[u32]) -> Result<(), NoMemory>
-    ensures { OnOk result (out.new.items ≡ out.old.items ++ text_of_lines (map area_line regions.now)) }
-{
-    for region in regions {
-        push_count(out, b"a ", *region)?;
-    }
-    Ok(())
-}
-
-// Appends the digits of a count.
-fn push_digits(out: &mut Vec<u8>, count: u32) -> Result<(), NoMemory>
-    ensures { OnOk result (out.new.items ≡ out.old.items ++ decimal count) }
-{
-    print_signed(out, i128::from(count))
-}
-
-// Appends the digits of a size.
-fn push_size(out: &mut Vec<u8>, size: usize) -> Result<(), NoMemory>
-    ensures { OnOk result (out.new.items ≡ out.old.items ++ decimal size) }
-{
-    print_signed(out, size as i128)
-}
-
-// Appends numbers, each after a space.
-fn push_numbers(out: &mut Vec<u8>, numbers: &[u32]) -> Result<(), NoMemory>
-    ensures { OnOk result (out.new.items ≡ out.old.items ++ spaced_numbers numbers.now) }
-{
-    for number in numbers {
-        out.push(b' ')?;
-        push_digits(out, *number)?;
-    }
-    Ok(())
-}
-
-// Appends a number that a space stands behind.
-fn push_first(out: &mut Vec<u8>, number: u32) -> Result<(), NoMemory>
-    ensures { OnOk result (out.new.items ≡ out.old.items ++ decimal number ++ 32 ∷ []) }
-{
-    push_digits(out, number)?;
-    out.push(b' ')?;
-    Ok(())
-}
-
-/// Appends the escape row of an area and a class, with the part as its set.
-pub(crate) fn push_escape(
-    out: &mut Vec<u8>,
-    area: u32,
-    class: u8,
-    part: &[u32],
-) -> Result<(), NoMemory>
-    ensures { OnOk result (out.new.items ≡ out.old.items ++ text_of_lines (escape_line area part.now class ∷ [])) }
-{
-    out.extend_from_slice(b"e 1 ")?;
-    push_first(out, area)?;
-    push_first(out, u32::from(class))?;
-    push_size(out, part.len())?;
-    push_numbers(out, part)?;
-    out.push(b'\n')?;
-    Ok(())
 }

@@ -9,7 +9,7 @@ ghost use Rattle.generalise_core.specs.Words.{Request, Spells};
 ghost use Rattle.generalise_core.specs.Orders.{request};
 ghost use Rattle.generalise_core.specs.Texts.{text_of};
 ghost use Rattle.generalise_core.specs.PlanDues.{due_of};
-ghost use Rattle.generalise_core.specs.declared.outcome.Kind.{Kind};
+ghost use Rattle.cert_text.specs.declared.certificate.CertStatus.{CertStatus};
 ghost use Rattle.generalise_core.specs.Answers.{AnswersProblem};
 ghost use Rattle.generalise_core.specs.Codes.{status_of, HasGrouping, MayEndAs, MayFailAs};
 ghost use Rattle.generalise_core.specs.Stops.{line_of, status_of_stop, usage_line};
@@ -61,15 +61,15 @@ fn put_out<S: Shelf>(shelf: &mut S, name: &str, text: &[u8]) -> Result<(), Statu
 // Says the report, and ends with the plan's status unless that fails.
 #[tactic(auto, using(crate::proofs::StateLemmas::says_whole, crate::proofs::StateLemmas::says_part))]
 fn say_report<S: Shelf>(shelf: &mut S, plan: &Plan) -> Status
-    ensures status { MayEndAs (status_of plan.now.kind) result }
-    ensures heard { result ≡ status_of plan.now.kind → S.state shelf.new ≡ with_line (S.state shelf.old) plan.now.report.items }
+    ensures status { MayEndAs (status_of plan.now.status) result }
+    ensures heard { result ≡ status_of plan.now.status → S.state shelf.new ≡ with_line (S.state shelf.old) plan.now.report.items }
     ensures partly { IsPartlySpoken (S.state shelf.old).said (S.state shelf.new).said plan.now.report.items }
     ensures frame { OnlySays (S.state shelf.old) (S.state shelf.new) }
     ensures cause { result ≡ Status.WriteFault → HasRisen (S.state shelf.old).put_faults (S.state shelf.new).put_faults }
     ensures quiet { result ≢ Status.WriteFault → (S.state shelf.new).put_faults ≡ (S.state shelf.old).put_faults }
 {
     match shelf.say(&plan.report) {
-        Ok(()) => Status::of(plan.kind),
+        Ok(()) => Status::of(plan.status),
         Err(Put::Failed) => Status::WriteFault,
         Err(Put::Memory) => Status::Memory,
     }
@@ -108,8 +108,8 @@ fn put_all<S: Shelf>(shelf: &mut S, order: &Order, plan: &Plan) -> Result<(), St
 // Stores what is due, and then says the report.
 #[tactic(auto, using(crate::proofs::StateLemmas::stores_then_says, crate::proofs::StateLemmas::only_stores_puts, crate::proofs::StateLemmas::all_then_line))]
 fn carry_out<S: Shelf>(shelf: &mut S, order: &Order, plan: &Plan) -> Status
-    ensures status { MayEndAs (status_of plan.now.kind) result }
-    ensures whole { result ≡ status_of plan.now.kind → S.state shelf.new ≡ with_all (S.state shelf.old) (due_of order.now plan.now) plan.now.report.items }
+    ensures status { MayEndAs (status_of plan.now.status) result }
+    ensures whole { result ≡ status_of plan.now.status → S.state shelf.new ≡ with_all (S.state shelf.old) (due_of order.now plan.now) plan.now.report.items }
     ensures partly { IsPartlyPut (S.state shelf.old).files (S.state shelf.new).files (due_of order.now plan.now) }
     ensures heard { ((S.state shelf.new).said ≡ (S.state shelf.old).said)
         ⊎ ((S.state shelf.new).files ≡ all_stored (S.state shelf.old).files (due_of order.now plan.now)) × IsPartlySpoken (S.state shelf.old).said (S.state shelf.new).said plan.now.report.items }
@@ -137,23 +137,23 @@ fn carry_out<S: Shelf>(shelf: &mut S, order: &Order, plan: &Plan) -> Status
 /// - `Memory` comes where memory runs out, at any point.
 pub fn run<S: Shelf, W: Crew>(alloc: Global, words: &Words, shelf: &mut S, crew: &W) -> Status
     // Done and Within: CERT and OUT are stored and the report is said, and these state an answer of which all this holds.
-    ensures feasible { HasGrouping result → PutsOut (S.state shelf.old) (S.state shelf.new) words.now (λ a. IsFeasible a.problem a.outcome.grouping) }
-    ensures cost { HasGrouping result → PutsOut (S.state shelf.old) (S.state shelf.new) words.now (λ a. a.outcome.cost ≡ Some (cost a.problem a.outcome.grouping)) }
+    ensures feasible { HasGrouping result → PutsOut (S.state shelf.old) (S.state shelf.new) words.now (λ a. IsFeasible a.problem a.outcome.certificate.grouping) }
+    ensures cost { HasGrouping result → PutsOut (S.state shelf.old) (S.state shelf.new) words.now (λ a. a.outcome.certificate.cost ≡ Some (cost a.problem a.outcome.certificate.grouping)) }
     ensures bound { HasGrouping result → PutsOut (S.state shelf.old) (S.state shelf.new) words.now (λ a.
-        (b : ℤ) × (a.outcome.bound ≡ Some b) × ((g : Grouping) → IsFeasible a.problem g → b ≤ℤ cost a.problem g)) }
-    ensures optimal { result ≡ Status.Done → PutsOut (S.state shelf.old) (S.state shelf.new) words.now (λ a. a.outcome.bound ≡ a.outcome.cost) }
+        (b : ℤ) × (a.outcome.certificate.bound ≡ Some b) × ((g : Grouping) → IsFeasible a.problem g → b ≤ℤ cost a.problem g)) }
+    ensures optimal { result ≡ Status.Done → PutsOut (S.state shelf.old) (S.state shelf.new) words.now (λ a. a.outcome.certificate.bound ≡ a.outcome.certificate.cost) }
     ensures within { result ≡ Status.Within → PutsOut (S.state shelf.old) (S.state shelf.new) words.now (λ a.
-        (b c : ℤ) × (a.outcome.bound ≡ Some b) × (a.outcome.cost ≡ Some c) × (b <ℤ c)) }
+        (b c : ℤ) × (a.outcome.certificate.bound ≡ Some b) × (a.outcome.certificate.cost ≡ Some c) × (b <ℤ c)) }
     ensures union { HasGrouping result → PutsOut (S.state shelf.old) (S.state shelf.new) words.now (λ a.
-        (text : List ℕ) × (a.outcome.map ≡ Some text) × IsDrawnMap (odds_of a.checked.areas) a.outcome.grouping a.classes.names a.checked.frame text) }
+        (text : List ℕ) × (a.outcome.map ≡ Some text) × IsDrawnMap (odds_of a.checked.areas) a.outcome.certificate.grouping a.classes.names a.checked.frame text) }
 
     // Hopeless: CERT is stored and the report is said, where no grouping is feasible.
     ensures none { result ≡ Status.Hopeless → PutsOut (S.state shelf.old) (S.state shelf.new) words.now (λ a. (g : Grouping) → ¬ IsFeasible a.problem g) }
 
     // All of this holds of one answer, and each told pair of files that is accepted gets one.
-    ensures stated { (kind : Kind) → result ≡ status_of kind → PutsOut (S.state shelf.old) (S.state shelf.new) words.now (λ a.
-        (a.outcome.kind ≡ kind) × AnswersProblem a.checked a.classes a.problem a.outcome) }
-    ensures answering { (p : Problem) → AcceptsTold (S.state shelf.old).files words.now p → (kind : Kind) × MayFailAs (status_of kind) result }
+    ensures stated { (status : CertStatus) → result ≡ status_of status → PutsOut (S.state shelf.old) (S.state shelf.new) words.now (λ a.
+        (a.outcome.certificate.status ≡ status) × AnswersProblem a.checked a.classes a.problem a.outcome) }
+    ensures answering { (p : Problem) → AcceptsTold (S.state shelf.old).files words.now p → (status : CertStatus) × MayFailAs (status_of status) result }
     ensures hopeless { (p : Problem) → AcceptsTold (S.state shelf.old).files words.now p → ((g : Grouping) → ¬ IsFeasible p g) → MayFailAs Status.Hopeless result }
 
     // Usage: the words are in no form, exactly. Then only the usage is said, so nothing is fetched.

@@ -7,8 +7,8 @@ pub returns : goal.returns
 returns g c =
     let r = request c.args.order.now in
     let old = g.S.Shelf.state c.args.shelf.now in
-    files_planned old _ r c.deref.result.now c.deref-2.result.now c.make_plan.result
-    (text_fetched old old r.map _ _ _ refl c.deref.ensures.value c.in-Ok.ensures.bound c.in-Ok.ensures.bytes)
-    (text_fetched old (g.S.Shelf.state c.fetch.new.self) r.table _ _ _ c.in-Ok.ensures.state c.deref-2.ensures.value c.in-Ok-fetch.ensures.bound c.in-Ok-fetch.ensures.bytes)
+    files_planned old _ r c.in-Ok.bytes.items c.in-Ok-fetch.bytes.items c.make_plan.result
+    (text_fetched old old r.map _ _ _ refl refl c.in-Ok.ensures.bound c.in-Ok.ensures.bytes)
+    (text_fetched old (g.S.Shelf.state c.fetch.new.self) r.table _ _ _ c.in-Ok.ensures.state refl c.in-Ok-fetch.ensures.bound c.in-Ok-fetch.ensures.bytes)
     (c.in-Ok-fetch.ensures.state ∙ c.in-Ok.ensures.state)
     c.make_plan.ensures

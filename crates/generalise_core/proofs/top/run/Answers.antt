@@ -44,7 +44,7 @@ returns-in-Ok-decide-clause-refusing g c = λ line refused. absurd (answered_not
 
 pub returns-in-Ok-decide-clause-hopeless : goal.returns-in-Ok-decide-clause-hopeless
 returns-in-Ok-decide-clause-hopeless g c = λ p problem never.
-    ends_as _ _ _ (c.in-Ok-decide.ensures.0.writes.kind ∙ stated_hopeless _ _ _ _ p (rw c.in-Some.is at c.in-Ok.ensures.found) c.in-Ok-decide.ensures.0.answers problem never) c.carry_out.ensures.status
+    ends_as _ _ _ (c.in-Ok-decide.ensures.0.writes.status ∙ stated_hopeless _ _ _ _ p (rw c.in-Some.is at c.in-Ok.ensures.found) c.in-Ok-decide.ensures.0.answers problem never) c.carry_out.ensures.status
 
 pub returns-in-Ok-decide-clause-partly : goal.returns-in-Ok-decide-clause-partly
 returns-in-Ok-decide-clause-partly g c =
