@@ -1,10 +1,18 @@
 #!/usr/bin/env python3
-"""Compares the program with the second implementation on random maps and tables: compare.py PROGRAM RUNS SEED
+"""Compares the program with the second implementation on random maps and tables: compare.py PROGRAM RUNS SEED [--judged N] [FORMAT ..]
 
-Exit codes, said texts, certificates and written maps are compared byte by byte. In about a third of the runs a text is changed at random
-places, so that refusals are compared too. Beside that the written map is held against the certificate: the middle of each cell lies in the
-drawn region of the cell's area and in no other, and in none where there is no data. It prints the first run that differs, or how many
-agreed, by exit code. It takes no part in any proof.
+The formats, `grid`, `topojson` and `geojson`, take turns; without any named all three do. Exit codes, said texts, certificates and written
+maps are compared byte by byte. In about a third of the runs a text is changed at random places of its bytes or of its values, so that
+refusals are compared too. Beside that the written map is held against the certificate. For a grid the middle of each cell lies in the drawn
+region of the cell's area and in no other, and in none where there is no data. For polygons the edges of each drawn region are those that
+an odd number of its areas have. The second judge finds the certificate valid.
+
+The second implementation draws one region for each part of a map and splits nothing. With `--judged N` the program runs with `--splits N`
+and may do better: then refusals are compared as before, and other answers are judged. The certificate must be valid and cost no more, the
+report and the exit code must say what it says, and the written map must be that of its regions.
+
+It prints the first run that differs, or how many agreed, by format, exit code and fault. PROGRAM may be
+`tools/reference.py` itself, which tests this tool. It takes no part in any proof.
 """
 import collections
 import json
@@ -14,8 +22,17 @@ import subprocess
 import sys
 import tempfile
 
-from reference import answer, patches_of, read_grid
+import certificates
+import judge
+from command_words import Asked
+from layout import edge, map_text as map_text_of, steps
+from random_maps import CLASSES, random_map
+from reference import PolygonMap, answer, borders_of, bytes_of, load, patches_of, read_grid
 from topology import regions, ring_of
+
+FORMS = ["grid", "topojson", "geojson"]
+GRID_BYTES = b" \t\r\n0123456789-.abcelnorsw#\xc3\xff\x00"
+JSON_BYTES = b' \n0123456789-.eE+[]{}:,"\\nulltrueuDd8cC\xc3\xa4\xed\xf4\xff\x00\x1f'
 
 
 def random_grid(dice):
@@ -38,8 +55,7 @@ def random_grid(dice):
 
 
 def random_table(dice):
-    names = ["1", "2", "3", "0", "7", "5", "-4", "a b", "-9999"]
-    names = dice.sample(names, dice.choice([9, 9, dice.randint(1, 9)]))
+    names = dice.sample(CLASSES, dice.choice([10, 10, 10, dice.randint(1, 10)]))
     out = ["classes 1"]
     if dice.random() < 0.4:
         out.append(f"unit {dice.randint(1, 12)} {dice.randint(1, 12)}")
@@ -60,12 +76,12 @@ def spelled(dice, rows):
     return (end.join(rows) + (end if dice.random() < 0.85 else "")).encode()
 
 
-def changed(dice, text):
-    """The text with one to three bytes changed, left out or put in."""
+def changed(dice, text, fresh):
+    """The text with one to three bytes changed, left out or put in; new ones are among those that are fresh."""
     text = bytearray(text)
     for _ in range(dice.randint(1, 3)):
         at = dice.randint(0, len(text))
-        byte = dice.choice(b" \t\r\n0123456789-.abcelnorsw#\xc3\xff\x00")
+        byte = dice.choice(fresh)
         if dice.random() < 0.5 and at < len(text):
             text[at] = byte
         elif dice.random() < 0.5 and at < len(text):
@@ -75,15 +91,20 @@ def changed(dice, text):
     return bytes(text)
 
 
-def bytes_of(path):
-    """The bytes of a file; None where there is none."""
-    if not os.path.exists(path):
-        return None
-    with open(path, "rb") as file:
-        return file.read()
+def words_of(dice, asked, names, splits):
+    """The words of a run, with the options anywhere behind the command."""
+    groups = [[asked.form]] + [[names[name]] for name in "mtoc"]
+    options = [["--splits", str(splits)]]
+    if asked.class_name != "class":
+        options.append(["--class", asked.class_name])
+    if asked.object_name is not None:
+        options.append(["--object", asked.object_name])
+    for option in options:
+        groups.insert(dice.randint(0, len(groups)), option)
+    return ["generalise"] + [word for group in groups for word in group]
 
 
-def run(program, folder, map_text, table_text):
+def run(program, folder, dice, asked, splits, map_text, table_text):
     """What the program ends with and says, and the bytes of the certificate and of the map."""
     names = {name: os.path.join(folder, name) for name in "mtoc"}
     for name, text in (("m", map_text), ("t", table_text)):
@@ -92,8 +113,7 @@ def run(program, folder, map_text, table_text):
     for name in "oc":
         if os.path.exists(names[name]):
             os.remove(names[name])
-    words = [program, "generalise", "grid"] + [names[name] for name in "mtoc"] + ["--splits", "0"]
-    done = subprocess.run(words, capture_output=True, check=False)
+    done = subprocess.run([program] + words_of(dice, asked, names, splits), capture_output=True, check=False)
     return done.returncode, done.stdout, bytes_of(names["c"]), bytes_of(names["o"])
 
 
@@ -121,16 +141,10 @@ def holds(rings, x, y):
     return crossed % 2 == 1
 
 
-def is_drawn(map_text, certificate, out):
-    """Whether the written map has the regions of the certificate, cell by cell."""
-    if out is None:
-        return certificate is None or b"status none" in certificate
+def is_drawn_by_cells(map_text, region_of, drawn):
+    """Whether the rings have the middle of each cell in its region and in no other."""
     columns, rows, nodata, cells, _ = read_grid(map_text)
     patch, _ = patches_of(columns, rows, nodata, cells)
-    region_of = [int(line[2:]) for line in certificate.decode().split("\n") if line.startswith("a ")]
-    drawn = rings_of(json.loads(out))
-    if drawn is None:
-        return False
     for place, area in enumerate(patch):
         x, y = place % columns + 0.5, rows - place // columns - 0.5
         inside = [r for r, rings in enumerate(drawn) if holds(rings, x, y)]
@@ -139,23 +153,102 @@ def is_drawn(map_text, certificate, out):
     return True
 
 
+def is_drawn_by_edges(asked, map_text, region_of, drawn):
+    """Whether the rings of each region step along the edges that an odd number of its areas have, and along no other."""
+    landscape = PolygonMap(map_text, asked)
+    landscape.check()
+    due = [set() for _ in drawn]
+    for edges, region in zip(landscape.edges(), region_of):
+        due[region] ^= edges
+    walked = [[edge(a, b) for ring in rings for a, b in steps(ring)] for rings in drawn]
+    return all(len(told) == len(edges) and set(told) == edges for told, edges in zip(walked, due))
+
+
+def is_drawn(asked, map_text, certificate, out):
+    """Whether the written map has the regions of the certificate."""
+    if out is None:
+        return certificate is None or b"status none" in certificate
+    region_of = [int(line[2:]) for line in certificate.decode().split("\n") if line.startswith("a ")]
+    drawn = rings_of(json.loads(out))
+    if drawn is None:
+        return False
+    if asked.form == "grid":
+        return is_drawn_by_cells(map_text, region_of, drawn)
+    return is_drawn_by_edges(asked, map_text, region_of, drawn)
+
+
+def random_run(dice, form, changing=True):
+    """What is asked, a map and a table; some are changed where that is wanted."""
+    if form == "grid":
+        asked, map_text, share = Asked("grid", "class", None), random_grid(dice), 0.2
+    else:
+        map_text, asked = random_map(dice, form, changing)
+        share = 0.12
+    table_text = random_table(dice)
+    if changing and dice.random() < share:
+        map_text = changed(dice, map_text, GRID_BYTES if form == "grid" else JSON_BYTES)
+    if changing and dice.random() < (0.2 if form == "grid" else 0.07):
+        table_text = changed(dice, table_text, GRID_BYTES)
+    return asked, map_text, table_text
+
+
+def is_valid(asked, map_text, table_text, got):
+    """Whether the second judge finds the certificate valid, where there is one."""
+    return got[2] is None or judge.answer(asked, map_text, table_text, got[2], lambda: got[3])[0] == 0
+
+
+def due_answer(asked, map_text, table_text, certificate):
+    """The answer that a certificate with a grouping asks for."""
+    landscape, table, _ = load(asked, map_text, table_text)
+    count = len(certificate.regions)
+    lines = [certificate.status, f"areas {landscape.areas}", f"passed {landscape.passed}", f"regions {count}"]
+    splits = sum(isinstance(node, certificates.Split) for node in certificate.tree)
+    lines += [f"cost {certificate.cost}", f"bound {certificate.bound}", f"splits {splits}", ""]
+    names = [table.names[cls].decode() for cls in certificate.regions]
+    out = map_text_of(borders_of(landscape.edges(), certificate.region_of, count), names, landscape.frame)
+    return 0 if certificate.status == "optimal" else 3, "\n".join(lines).encode(), certificates.text_of(certificate), out
+
+
+def is_due(asked, map_text, table_text, got, due, splits):
+    """Whether an answer says what its certificate says, or is the due one where there is no grouping."""
+    if due[0] not in (0, 3) or got[2] is None:
+        return got == due
+    certificate = certificates.read(got[2])
+    if certificate.status == "none" or certificate.cost > certificates.read(due[2]).cost:
+        return False
+    firsts = [certificate.region_of.index(region) for region in range(len(certificate.regions))]
+    few = sum(isinstance(node, certificates.Split) for node in certificate.tree) <= splits
+    return few and firsts == sorted(firsts) and got == due_answer(asked, map_text, table_text, certificate)
+
+
+def parsed(words):
+    """The program, the number of runs, the random numbers, the splits where answers are judged, and the formats."""
+    splits = None
+    if len(words) > 4 and words[3] == "--judged":
+        splits = int(words[4])
+        del words[3:5]
+    forms = words[3:] or FORMS
+    if not set(forms) <= set(FORMS):
+        sys.exit(f"compare.py: a format is one of {', '.join(FORMS)}")
+    return words[0], int(words[1]), random.Random(int(words[2])), splits, forms
+
+
 def main():
-    program, runs, dice = sys.argv[1], int(sys.argv[2]), random.Random(int(sys.argv[3]))
+    program, runs, dice, splits, forms = parsed(sys.argv[1:])
     codes = collections.Counter()
     with tempfile.TemporaryDirectory() as folder:
-        for _ in range(runs):
-            map_text, table_text = random_grid(dice), random_table(dice)
-            if dice.random() < 0.2:
-                map_text = changed(dice, map_text)
-            if dice.random() < 0.2:
-                table_text = changed(dice, table_text)
-            got, due = run(program, folder, map_text, table_text), answer(map_text, table_text)
-            if got != due or not is_drawn(map_text, got[2], got[3]):
-                print(f"map {map_text!r}\ntable {table_text!r}\nprogram {got!r}\nreference {due!r}")
+        for at in range(runs):
+            asked, map_text, table_text = random_run(dice, forms[at % len(forms)])
+            got = run(program, folder, dice, asked, splits or 0, map_text, table_text)
+            due = answer(asked, map_text, table_text)
+            same = got == due if splits is None else is_due(asked, map_text, table_text, got, due, splits)
+            if not (same and is_drawn(asked, map_text, got[2], got[3]) and is_valid(asked, map_text, table_text, got)):
+                print(f"{asked}\nmap {map_text!r}\ntable {table_text!r}\nprogram {got!r}\nreference {due!r}")
                 sys.exit(1)
-            codes[got[0], got[1].split(b"\n")[0].decode() if got[0] == 65 else ""] += 1
-    for (code, line), count in sorted(codes.items()):
-        print(count, code, line)
+            words = got[1].decode().split() if got[0] == 65 else []
+            codes[asked.form, got[0], " ".join(word for word in words if word.strip("-0123456789"))] += 1
+    for (form, code, line), count in sorted(codes.items()):
+        print(count, form, code, line)
 
 
 if __name__ == "__main__":

@@ -1,7 +1,7 @@
 #!/usr/bin/env python3
 """Writes a grid of noise and its class table: noise.py COLUMNS ROWS SEED MAP TABLE
 
-The hardest map there is for a generaliser: five classes, each cell on its own. It takes no part in any proof.
+A hard map for a generaliser: five classes, each cell on its own. It takes no part in any proof.
 A state that starts at SEED goes on by state * 1103515245 + 12345 modulo 2^31; the cell is state / 65536 modulo 5, plus 1.
 """
 import sys

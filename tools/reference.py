@@ -1,22 +1,27 @@
 #!/usr/bin/env python3
-"""A second implementation of `generalise grid MAP TABLE OUT CERT --splits 0`, written apart from the program to compare it with.
+"""A second implementation of the program, to compare it with: reference.py generalise FORMAT MAP TABLE OUT CERT --splits 0
 
-It is slow and plain, it proves nothing, and nothing in the program stands on it. `answer(map, table)` gives the exit code, the said text,
-the certificate and the written map, or None where there is none.
+It is written apart from the program. The words are those of the program, with `--class NAME` and `--object NAME`. It is slow and plain, it
+proves nothing, and nothing in the program stands on it. `answer(asked, map, table)` gives the exit code, the said text, the certificate and
+the written map, or None where there is none; `asked` has the format and the names of `command_words.Asked`.
 """
 import math
 import re
+import sys
 
+import command_words
+import coverage
+import json_tree
+import polygon_maps
 from layout import edge, map_text
+from polygon_maps import Refused
 
 LETTERS = set(b"abcdefghijklmnopqrstuvwxyzABCDEFGHIJKLMNOPQRSTUVWXYZ")
 JSON_NUMBER = re.compile(rb"-?(0|[1-9][0-9]*)(\.[0-9]+)?([eE][+-]?[0-9]+)?\Z")
 WHOLE = re.compile(rb"-?[0-9]+(\.0+)?\Z")
 FAR = 2147483647
-
-
-class Refused(Exception):
-    pass
+MOST_MAP = 67108864
+MOST_TABLE = 1048576
 
 
 def lines(text):
@@ -195,29 +200,20 @@ class Table:
 
 
 class Problem:
-    """The problem of the cells, their patches and a table: weights, own classes, and links with their lengths."""
+    """The problem of weighed areas and a table: weights, own classes, and links with their lengths."""
 
-    def __init__(self, columns, cells, patch, areas, table):
-        self.areas, self.table = areas, table
-        self.weight, self.own, self.links = [0] * areas, [None] * areas, {}
-        wide, high = table.unit
-        for place, area in enumerate(patch):
-            if area is None:
-                continue
-            self.weight[area] += 2 * wide * high
-            self.own[area] = str(cells[place]).encode()
-            beside = patch[place + 1] if (place + 1) % columns else None
-            below = patch[place + columns] if place + columns < len(cells) else None
-            for other, stretch in ((beside, high), (below, wide)):
-                if other is not None and other != area:
-                    pair = (min(area, other), max(area, other))
-                    self.links[pair] = self.links.get(pair, 0) + math.isqrt(65536 * stretch * stretch)
-        for area in range(self.areas):
-            if self.own[area] not in self.table.names:
+    def __init__(self, names, weight, links, table):
+        self.areas, self.table, self.weight, self.links = len(names), table, weight, links
+        for area, name in enumerate(names):
+            if name not in table.names:
                 raise Refused(f"classes UnknownClass {area}")
-            self.own[area] = self.table.names.index(self.own[area])
+        for area, sum_of_terms in enumerate(weight):
+            if sum_of_terms < 1:
+                raise Refused(f"weights NoWeight {area} {sum_of_terms}")
+        self.own = [table.names.index(name) for name in names]
 
     def parts(self):
+        """The least area that each area hangs together with."""
         part = list(range(self.areas))
 
         def top(area):
@@ -229,6 +225,74 @@ class Problem:
             low, high = sorted((top(a), top(b)))
             part[high] = low
         return [top(area) for area in range(self.areas)]
+
+
+class GridMap:
+    """A grid as patches of cells, measured cell by cell."""
+
+    def __init__(self, text):
+        self.columns, self.rows, nodata, self.cells, self.frame = read_grid(text)
+        self.patch, self.areas = patches_of(self.columns, self.rows, nodata, self.cells)
+        self.passed = 0
+
+    def check(self):
+        """A grid's patches never cross or overlap."""
+
+    def problem(self, table):
+        names, weight, links = [None] * self.areas, [0] * self.areas, {}
+        wide, high = table.unit
+        for place, area in enumerate(self.patch):
+            if area is None:
+                continue
+            weight[area] += 2 * wide * high
+            names[area] = str(self.cells[place]).encode()
+            beside = self.patch[place + 1] if (place + 1) % self.columns else None
+            below = self.patch[place + self.columns] if place + self.columns < len(self.cells) else None
+            for other, stretch in ((beside, high), (below, wide)):
+                if other is not None and other != area:
+                    pair = (min(area, other), max(area, other))
+                    links[pair] = links.get(pair, 0) + math.isqrt(65536 * stretch * stretch)
+        return Problem(names, weight, links, table)
+
+    def edges(self):
+        """The odd edges of each area: the sides of its cells that no other cell of it has."""
+        found = [set() for _ in range(self.areas)]
+        for place, area in enumerate(self.patch):
+            if area is not None:
+                x, y = place % self.columns, self.rows - 1 - place // self.columns
+                corners = [(x, y), (x + 1, y), (x + 1, y + 1), (x, y + 1)]
+                found[area] ^= {edge(a, b) for a, b in zip(corners, corners[1:] + corners[:1])}
+        return found
+
+
+class PolygonMap:
+    """A map of polygons, measured by the edges of its areas."""
+
+    def __init__(self, text, asked):
+        try:
+            tree = json_tree.read(text)
+        except json_tree.JsonFault as fault:
+            raise Refused(f"map {fault}")
+        try:
+            if asked.form == "topojson":
+                self.coverage = polygon_maps.read_topology(tree, asked.class_name, asked.object_name)
+            else:
+                self.coverage = polygon_maps.read_features(tree, asked.class_name)
+        except Refused as refusal:
+            raise Refused(f"map {refusal}")
+        self.frame = self.coverage.frame
+
+    def check(self):
+        self.coverage = coverage.check(self.coverage)
+        self.areas, self.passed = len(self.coverage.areas), self.coverage.passed
+
+    def problem(self, table):
+        areas, (wide, high) = self.coverage.areas, table.unit
+        weight = [wide * high * coverage.weight_of(edges) for _, edges in areas]
+        return Problem([name for name, _ in areas], weight, coverage.links_of(areas, table.unit), table)
+
+    def edges(self):
+        return [edges for _, edges in self.coverage.areas]
 
 
 def choose(problem, members):
@@ -274,29 +338,79 @@ def solve(problem):
     return (0 if cost == 0 else 3), (status, cost, 0), text, regions, region_of
 
 
-def borders_of(columns, rows, patch, region_of, count):
-    """The border edges of each region: the sides of its cells that no other cell of it has."""
+def borders_of(edges, region_of, count):
+    """The border edges of each region: those that an odd number of its areas have."""
     borders = [set() for _ in range(count)]
-    for place, area in enumerate(patch):
-        if area is not None:
-            x, y = place % columns, rows - 1 - place // columns
-            corners = [(x, y), (x + 1, y), (x + 1, y + 1), (x, y + 1)]
-            borders[region_of[area]] ^= {edge(a, b) for a, b in zip(corners, corners[1:] + corners[:1])}
+    for own, region in zip(edges, region_of):
+        borders[region] ^= own
     return borders
 
 
-def answer(map_bytes, table_bytes):
+def load(asked, map_bytes, table_bytes):
+    """The map, its table and their problem, or the first refusal."""
+    landscape = GridMap(map_bytes) if asked.form == "grid" else PolygonMap(map_bytes, asked)
+    table = Table(table_bytes)
+    landscape.check()
+    return landscape, table, landscape.problem(table)
+
+
+def answer(asked, map_bytes, table_bytes):
     """The exit code, the said text, the certificate and the written map for the bytes of a map and a table."""
     try:
-        columns, rows, nodata, cells, frame = read_grid(map_bytes)
-        patch, areas = patches_of(columns, rows, nodata, cells)
-        problem = Problem(columns, cells, patch, areas, Table(table_bytes))
+        landscape, table, problem = load(asked, map_bytes, table_bytes)
     except Refused as refusal:
         return 65, f"refused: {refusal}\n".encode(), None, None
     code, (status, cost, bound), text, regions, region_of = solve(problem)
-    counts = f"areas {areas}\npassed 0\nregions {len(regions)}\n"
+    counts = f"areas {landscape.areas}\npassed {landscape.passed}\nregions {len(regions)}\n"
     report = f"{status}\n{counts}cost {cost}\nbound {bound}\nsplits 0\n".encode()
     if status == "none":
         return code, report, text, None
-    names = [problem.table.names[k].decode() for k in regions]
-    return code, report, text, map_text(borders_of(columns, rows, patch, region_of, len(regions)), names, frame)
+    names = [table.names[k].decode() for k in regions]
+    borders = borders_of(landscape.edges(), region_of, len(regions))
+    return code, report, text, map_text(borders, names, landscape.frame)
+
+
+def bytes_of(path):
+    """The bytes of a file; None where it cannot be read."""
+    try:
+        with open(path, "rb") as file:
+            return file.read()
+    except OSError:
+        return None
+
+
+def store(path, text):
+    with open(path, "wb") as file:
+        file.write(text)
+
+
+def generalise(words):
+    """Does what the command says: the exit code and the said text."""
+    map_name, table_name, out_name, certificate_name = words.files
+    texts = []
+    for name, place, most in ((map_name, "map", MOST_MAP), (table_name, "table", MOST_TABLE)):
+        texts.append(bytes_of(name))
+        if texts[-1] is None:
+            return 74, f"read fault: {place}\n".encode()
+        if len(texts[-1]) > most:
+            return 65, f"refused: {place} TooLong\n".encode()
+    code, said, certificate, out = answer(words.asked, *texts)
+    if certificate is not None:
+        store(certificate_name, certificate)
+    if out is not None:
+        store(out_name, out)
+    return code, said
+
+
+def main():
+    words = command_words.read(sys.argv[1:])
+    if words is None or words.command != "generalise" or words.splits != 0:
+        code, said = 64, command_words.USAGE
+    else:
+        code, said = generalise(words)
+    sys.stdout.buffer.write(said)
+    sys.exit(code)
+
+
+if __name__ == "__main__":
+    main()
