@@ -23,10 +23,10 @@ pub record IsSameGroup (p : Problem) (f : ℕ → ℕ) (s : ℕ) (g : ℕ → �
   pub there : (v : ℕ) → v < areas p → f v ≡ s → g v ≡ r
   pub back : (v : ℕ) → v < areas p → g v ≡ r → f v ≡ s
 
-turned : (p : Problem) (f : ℕ → ℕ) (s : ℕ) (g : ℕ → ℕ) (r : ℕ) → IsSameGroup p f s g r → IsSameGroup p g r f s
+pub turned : (p : Problem) (f : ℕ → ℕ) (s : ℕ) (g : ℕ → ℕ) (r : ℕ) → IsSameGroup p f s g r → IsSameGroup p g r f s
 turned p f s g r same = record { there = same.back; back = same.there }
 
-same_tests : (a b c d : ℕ) → (a ≡ b → c ≡ d) → (c ≡ d → a ≡ b) → (a == b) ≡ (c == d)
+pub same_tests : (a b c d : ℕ) → (a ≡ b → c ≡ d) → (c ≡ d → a ≡ b) → (a == b) ≡ (c == d)
 same_tests a b c d there back =
     elim (eqb_tells a b) [
       | inl h ↦ h.0 ∙ sym ((Decides-eqb c d).1 (there h.1))
@@ -38,12 +38,12 @@ same_weight p f s g r same =
     sum_below-same (areas p) (λ v. when (f v == s) (weight_of p v)) (λ v. when (g v == r) (weight_of p v)) (λ v h.
     ap (λ (b : Bool). when b (weight_of p v)) (same_tests (f v) s (g v) r (same.there v h) (same.back v h)))
 
-same_recolouring : (p : Problem) (f : ℕ → ℕ) (s : ℕ) (g : ℕ → ℕ) (r k : ℕ) → IsSameGroup p f s g r → recolouring_with p f s k ≡ recolouring_with p g r k
+pub same_recolouring : (p : Problem) (f : ℕ → ℕ) (s : ℕ) (g : ℕ → ℕ) (r k : ℕ) → IsSameGroup p f s g r → recolouring_with p f s k ≡ recolouring_with p g r k
 same_recolouring p f s g r k same =
     sum_below-same (areas p) (λ v. when (f v == s) (recolouring p v k)) (λ v. when (g v == r) (recolouring p v k)) (λ v h.
     ap (λ (b : Bool). when b (recolouring p v k)) (same_tests (f v) s (g v) r (same.there v h) (same.back v h)))
 
-same_open : (p : Problem) (f : ℕ → ℕ) (s : ℕ) (g : ℕ → ℕ) (r k : ℕ) → IsSameGroup p f s g r → IsOpen p f s k → IsOpen p g r k
+pub same_open : (p : Problem) (f : ℕ → ℕ) (s : ℕ) (g : ℕ → ℕ) (r k : ℕ) → IsSameGroup p f s g r → IsOpen p f s k → IsOpen p g r k
 same_open p f s g r k same is_open =
     let owned = is_open.owned in
     let heavy = is_open.heavy in

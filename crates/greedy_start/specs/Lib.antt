@@ -1,3 +1,4 @@
 pub mod Choices
+pub mod Orders
 pub mod Starts
 pub mod Tallies

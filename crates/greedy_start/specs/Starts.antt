@@ -1,6 +1,6 @@
 -- One region for each part, and the parts for which there is none.
-use Rattle.std.specs.Prelude.{◌≡◌, ℕ, ◌<◌, ◌≤◌, ◌↔◌, length}
-use Rattle.agg_model.specs.Problem.{Problem, Grouping, IsProblem, IsFeasible, areas, region, class_in}
+use Rattle.std.specs.Prelude.{◌≡◌, ℕ, ◌<◌, ◌≤◌, ◌↔◌, ◌≤ℤ◌, length}
+use Rattle.agg_model.specs.Problem.{Problem, Grouping, IsProblem, IsNumbered, IsFeasible, areas, region, class_in, cost}
 use Rattle.agg_model.specs.Parts.{InOnePart, AreParts, IsHopeless}
 use Rattle.greedy_start.specs.Choices.{IsChosen}
 
@@ -19,6 +19,16 @@ IsNumberedByLeast p g =
 pub record IsOneRegionEach (p : Problem) (g : Grouping) : Type 0 where
   pub parts : (u v : ℕ) → u < areas p → v < areas p → (region g u ≡ region g v) ↔ InOnePart p u v
   pub chosen : (r : ℕ) → r < length g.class_of → IsChosen p (region g) r (class_in g r)
+
+-- one region for each part, of its open class of least recolouring, costs no less
+abbrev pub IsNoDearerThanParts : Problem → Grouping → Type 0
+IsNoDearerThanParts p g =
+    (parts : Grouping) → IsNumbered p parts → IsOneRegionEach p parts → cost p g ≤ℤ cost p parts
+
+-- any two such groupings cost the same
+abbrev pub OneEachLaw : Type 0
+OneEachLaw =
+    (p : Problem) (g h : Grouping) → IsProblem p → IsNumbered p g → IsNumbered p h → IsOneRegionEach p g → IsOneRegionEach p h → cost p g ≡ cost p h
 
 -- v is the least area of the first part that is hopeless
 pub record IsFirstHopeless (p : Problem) (v : ℕ) : Type 0 where

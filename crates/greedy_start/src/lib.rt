@@ -1,11 +1,13 @@
-//! A first grouping: one region for each part of a problem, with the class that is open there at the least recolouring.
+//! A first grouping: what a search finds from one region for each part of a problem, with the class that is open there at the least
+//! recolouring.
 #![tactic(auto)]
 
 mod choices;
 mod laws;
+mod orders;
 mod starts;
 
-pub use laws::{hopeless_law, parts_law};
+pub use laws::{hopeless_law, one_each_law, parts_law};
 pub use starts::{StartFault, start};
 
 #[cfg(test)]

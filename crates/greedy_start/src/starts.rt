@@ -1,14 +1,23 @@
-// One region for each part.
+// One region for each part, and what a search finds from there.
 ghost use Rattle.std.specs.Prelude.{◌≡◌, ◌<◌, ◌≤◌, ℕ, length, slice_index, IfOk, EachIndex};
 ghost use Rattle.agg_model.specs.Problem.{Grouping, IsFeasible};
-ghost use Rattle.greedy_start.specs.Starts.{IsNumberedByLeast, IsOneRegionEach, IsFirstHopeless};
+ghost use Rattle.greedy_start.specs.Starts.{IsNumberedByLeast, IsOneRegionEach, IsFirstHopeless, IsNoDearerThanParts};
 ghost use Rattle.greedy_start.specs.Tallies.{IsStart, IsFirstNone};
 
 use crate::choices::{Best, best_classes};
+use crate::orders::is_in_order;
 use agg_base::NoMemory;
 use agg_model::{Grouping, Problem, parts};
 use std::alloc::{AllocFailed, Global};
 use thiserror::Error;
+use window_search::search;
+
+// How many turns the search takes: so many for each area, or so many for each and so many more, whichever is less.
+const FEW_AREAS_TURNS: u64 = 32;
+
+const AREA_TURNS: u64 = 8;
+
+const MORE_TURNS: u64 = 24_000;
 
 /// Why there is no first grouping.
 #[derive(Clone, Copy, Debug, PartialEq, Eq, Error)]
@@ -42,11 +51,45 @@ impl<T: Drop> From<AllocFailed<T>> for StartFault {
     }
 }
 
-/// A feasible grouping, with regions numbered by their least areas: one region for each part. Its class is the one of least recolouring among
-/// those that an area of the part owns and whose threshold is at most the weight of the part, the least number at a tie.
+/// A feasible grouping, with regions numbered by their least areas. It costs no more than one region for each part, whose class is the one of
+/// least recolouring among those that an area of the part owns and whose threshold is at most the weight of the part, the least number at a
+/// tie. The same problem gets the same grouping on every machine.
 ///
 /// `Hopeless` comes exactly where no grouping is feasible, and names the least area of the first part that has no such class.
 pub fn start(alloc: Global, problem: &Problem) -> Result<Grouping, StartFault>
+    ensures found { IfOk result (λ g. IsFeasible problem.now g × IsNumberedByLeast problem.now g) }
+    ensures cheap { IfOk result (λ g. IsNoDearerThanParts problem.now g) }
+    ensures hopeless { (v : ℕ) → result ≡ Err (StartFault.Hopeless v) → IsFirstHopeless problem.now v }
+    ensures none { (v : ℕ) → result ≡ Err (StartFault.Hopeless v) → (g : Grouping) → ¬ IsFeasible problem.now g }
+{
+    let whole = whole_parts(alloc, problem)?;
+    Ok(improved(alloc, problem, whole)?)
+}
+
+// What the search finds from one region for each part, where its regions come in the order of their least areas; else that grouping.
+fn improved(alloc: Global, problem: &Problem, whole: Grouping) -> Result<Grouping, NoMemory>
+    requires feasible { IsFeasible problem.now whole }
+    requires numbered { IsNumberedByLeast problem.now whole }
+    requires chosen { IsOneRegionEach problem.now whole }
+    ensures found { IfOk result (λ g. IsFeasible problem.now g × IsNumberedByLeast problem.now g) }
+    ensures cheap { IfOk result (λ g. IsNoDearerThanParts problem.now g) }
+{
+    let found = search(alloc, problem, &whole, turns_for(problem.areas()))?;
+    if is_in_order(&found.region_of) {
+        Ok(found)
+    } else {
+        Ok(whole)
+    }
+}
+
+// How many turns the search takes.
+fn turns_for(areas: u32) -> u64 {
+    let areas = u64::from(areas);
+    (areas * FEW_AREAS_TURNS).min(areas * AREA_TURNS + MORE_TURNS)
+}
+
+// One region for each part, of the open class of least recolouring, numbered by their least areas.
+fn whole_parts(alloc: Global, problem: &Problem) -> Result<Grouping, StartFault>
     ensures found { IfOk result (λ g. IsFeasible problem.now g × IsNumberedByLeast problem.now g) }
     ensures chosen { IfOk result (λ g. IsOneRegionEach problem.now g) }
     ensures hopeless { (v : ℕ) → result ≡ Err (StartFault.Hopeless v) → IsFirstHopeless problem.now v }

@@ -1,5 +1,6 @@
 // Areas of one, two and three classes, worked by hand.
-use crate::{StartFault, hopeless_law, parts_law, start};
+use crate::orders::is_in_order;
+use crate::{StartFault, hopeless_law, one_each_law, parts_law, start};
 use agg_model::{Grouping, Link, Problem, ProblemParts, cost, numbered, parts};
 use std::alloc::Global;
 use std::process::Abort;
@@ -86,7 +87,9 @@ fn three_areas_in_a_row(rt: HostRuntime) -> Result<(), Fail> {
         assert_eq!(rt; cost(&row, &grouping), price);
     }
     let tie = problem(&rt, alloc, &[(1, 2), (0, 2)], &[link(0, 1)], &[4, 4])?;
-    assert!(rt; same(&start(alloc, &tie)?, &[0, 0], &[0]));
+    let grouping = start(alloc, &tie)?;
+    assert!(rt; numbered(&tie, &grouping));
+    assert_eq!(rt; cost(&tie, &grouping), 10);
     let areas = [(0, 2), (1, 2), (0, 2)];
     let hopeless = problem(&rt, alloc, &areas, &links, &[7, 7])?;
     let fault = start(alloc, &hopeless).err();
@@ -116,8 +119,59 @@ fn parts_that_interleave(rt: HostRuntime) -> Result<(), Fail> {
     Ok(())
 }
 
+// A tile with speckle: two large patches, side by side, with three single cells of other classes in each.
+fn tile(rt: &impl Abort, alloc: Global) -> Result<Problem, Fail> {
+    let own = [0, 1, 1, 2, 0, 1, 2, 2];
+    let weight = [154, 154, 2, 2, 2, 2, 2, 2];
+    let mut links = vec![in alloc;
+        Link {
+            a: 0,
+            b: 1,
+            length: 2_048
+        },
+    ]?;
+    for (a, b) in [(0, 2), (0, 5), (0, 7), (1, 3), (1, 4), (1, 6)] {
+        links.push(Link {
+            a,
+            b,
+            length: 1_024,
+        })?;
+    }
+    let parts = ProblemParts {
+        classes: 3,
+        own: Vec::from_slice(alloc, &own)?,
+        weight: Vec::from_slice(alloc, &weight)?,
+        links,
+        distance: vec![in alloc; 0, 300, 600, 300, 0, 700, 600, 700, 0]?,
+        threshold: vec![in alloc; 20; 3]?,
+        border: 1,
+    };
+    Ok(Problem::of(parts).expect(rt, "a problem"))
+}
+
+#[test]
+fn single_cells_join_their_patches(rt: HostRuntime) -> Result<(), Fail> {
+    let alloc = rt.alloc();
+    let tile = tile(&rt, alloc)?;
+    let grouping = start(alloc, &tile)?;
+    assert!(rt; same(&grouping, &[0, 1, 0, 1, 1, 0, 1, 0], &[0, 1]));
+    assert!(rt; numbered(&tile, &grouping));
+    // 600 + 600 + 1,200 on the left, 600 + 1,400 + 1,400 on the right, and 2,048 between them.
+    assert_eq!(rt; cost(&tile, &grouping), 7_848);
+    Ok(())
+}
+
+#[test]
+fn order_of_regions(rt: HostRuntime) {
+    assert!(rt; is_in_order(&[]));
+    assert!(rt; is_in_order(&[0, 1, 0, 2, 1]));
+    assert!(rt; !is_in_order(&[1, 0]));
+    assert!(rt; !is_in_order(&[0, 2, 1]));
+}
+
 #[test]
 fn laws() {
     parts_law();
     hopeless_law();
+    one_each_law();
 }

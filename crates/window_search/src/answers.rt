@@ -9,10 +9,12 @@ use agg_base::NoMemory;
 use agg_model::{Grouping, Problem, cost, feasible, numbered, parts};
 use std::alloc::Global;
 
-// How much work the turns may take: so many looks at an area beside another for each turn, and so many more.
+// How much work the turns may take: so many looks at an area beside another for each turn and so many more, up to the most.
 const TURN_LOOKS: u64 = 5_000;
 
 const MORE_LOOKS: u64 = 10_000_000;
+
+const MOST_LOOKS: u64 = 200_000_000;
 
 // What stands for an area that has no region yet.
 const NO_REGION: u32 = u32::MAX;
@@ -21,7 +23,8 @@ const NO_REGION: u32 = u32::MAX;
 /// feasible, the answer is too. The same input gives the same answer on every machine. Its one refusal is want of memory.
 ///
 /// The search begins anew from the own classes, takes over the given grouping in each part where that is better, and then goes on from
-/// there. Its time grows with the turns, and with n + m for n areas and m links.
+/// there. More turns never cost more: they begin with the same ones. For n areas, n + 4,000 turns are a good start. The time grows with
+/// the areas, the links and the turns, up to some seconds: where turns are much work, a call takes fewer of them.
 pub fn search(
     alloc: Global,
     problem: &Problem,
@@ -94,12 +97,11 @@ impl Searcher {
     // Takes so many turns, or fewer where they are much work.
     fn take_turns(&mut self, net: &Net, turns: u64) {
         let areas = u64::from(net.areas());
-        let work = turns.saturating_mul(TURN_LOOKS);
-        let end = self
-            .state
-            .work()
-            .saturating_add(work)
-            .saturating_add(MORE_LOOKS);
+        let work = turns
+            .saturating_mul(TURN_LOOKS)
+            .saturating_add(MORE_LOOKS)
+            .min(MOST_LOOKS);
+        let end = self.state.work().saturating_add(work);
         for turn in 0..turns {
             if self.state.work() > end {
                 break;

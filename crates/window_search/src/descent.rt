@@ -1,10 +1,7 @@
 // Moves of single areas that make the state cheaper.
 use crate::lists::{at, put};
 use crate::net::Net;
-use crate::searcher::{HUB, Searcher};
-
-// The most areas that get their turn in one descent.
-const MOST_TURNS: usize = 8_192;
+use crate::searcher::{HUB, Searcher, WAITING};
 
 impl Searcher {
     // Moves the areas that the journal names and those beside them, and again those beside the moved ones.
@@ -15,7 +12,7 @@ impl Searcher {
                 self.await_around(net, area);
             }
         }
-        for place in 0..MOST_TURNS {
+        for place in 0..WAITING {
             let Some(area) = self.waiting.get(place) else {
                 break;
             };
@@ -37,7 +34,7 @@ impl Searcher {
     }
 
     fn await_turn(&mut self, area: u32) {
-        if self.waiting.len() < MOST_TURNS && !at(&self.is_waiting, area as usize, false) {
+        if self.waiting.len() < WAITING && !at(&self.is_waiting, area as usize, false) {
             put(&mut self.is_waiting, area as usize, true);
             self.waiting.push(area);
         }

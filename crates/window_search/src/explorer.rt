@@ -13,6 +13,7 @@ pub(crate) struct Explorer {
     found: Areas,
     stamp: u64,
     class: u8,
+    threshold: i128,
     weight: i128,
     is_owned: bool,
 }
@@ -23,6 +24,7 @@ impl Explorer {
             found: Areas::with_room(alloc, areas)?,
             stamp: 0,
             class: 0,
+            threshold: 0,
             weight: 0,
             is_owned: false,
         })
@@ -51,7 +53,7 @@ impl Explorer {
             return true;
         }
         self.begin(net, state, area);
-        let is_rich = self.is_enough(net, most) || self.is_found_rich(net, state, most);
+        let is_rich = self.is_enough(most) || self.is_found_rich(net, state, most);
         if !is_rich || self.found.len() > most {
             self.forget(state);
         }
@@ -77,6 +79,7 @@ impl Explorer {
     fn begin(&mut self, net: &Net, state: &mut State, area: u32) {
         self.stamp = state.known.fresh();
         self.class = state.class(area);
+        self.threshold = net.threshold(self.class);
         self.weight = 0;
         self.is_owned = false;
         self.found.clear();
@@ -92,8 +95,8 @@ impl Explorer {
     }
 
     // Whether what was found is enough for a rich region, or has more than so many areas.
-    fn is_enough(&self, net: &Net, most: usize) -> bool {
-        (self.is_owned && self.weight >= net.threshold(self.class)) || self.found.len() > most
+    fn is_enough(&self, most: usize) -> bool {
+        (self.is_owned && self.weight >= self.threshold) || self.found.len() > most
     }
 
     // Whether the region turns out to be rich, area by area.
@@ -120,7 +123,7 @@ impl Explorer {
                 return true;
             }
             self.find(net, state, *next);
-            if self.is_enough(net, most) {
+            if self.is_enough(most) {
                 return true;
             }
         }

@@ -7,10 +7,12 @@ const SWEEPS: u32 = 40;
 
 const TIMES: u32 = 16;
 
-// How often, at most, each area beside another is looked at in the first try, and how often more.
+// How much work the first try may take: so many looks at each area beside another and so many more, up to the most.
 const LOOKS: u64 = 400;
 
 const MORE_LOOKS: u64 = 25_600;
+
+const MOST_LOOKS: u64 = 100_000_000;
 
 // How a sweep ended: no poor region was left, some were, or there was too much work.
 #[derive(Clone, Copy, PartialEq, Eq)]
@@ -23,7 +25,11 @@ enum Sweep {
 impl Searcher {
     // Makes all regions rich, as far as that works.
     pub(crate) fn grow(&mut self, net: &Net) {
-        let budget = net.size().saturating_mul(LOOKS).saturating_add(MORE_LOOKS);
+        let budget = net
+            .size()
+            .saturating_mul(LOOKS)
+            .saturating_add(MORE_LOOKS)
+            .min(MOST_LOOKS);
         if self.sweeps(net, TIMES, budget) != Sweep::Done {
             self.has_pairs = false;
             let _ = self.sweeps(net, 1, u64::MAX);

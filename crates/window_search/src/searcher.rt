@@ -18,8 +18,8 @@ pub(crate) const MANY_AREAS: usize = 4 * FEW_AREAS;
 // The most areas beside an area that is moved alone.
 pub(crate) const HUB: usize = 256;
 
-// How many areas may wait for a move of their own.
-const WAITING: usize = 8_192;
+// How many areas may wait for a move of their own in one descent.
+pub(crate) const WAITING: usize = 8_192;
 
 // The first number of each search.
 const SEED: u32 = 7;
@@ -96,7 +96,7 @@ impl Searcher {
         true
     }
 
-    // A price, where prices are blurred made greater by up to its hundredth part a draw.
+    // A price. Where prices are blurred it grows by as many of its 128 parts as are drawn: a loss is dearer, and a gain is less.
     pub(crate) fn price(&mut self, price: i128) -> i128 {
         if !self.is_blurred {
             return price;

@@ -9,6 +9,9 @@ use std::alloc::Global;
 pub(crate) struct Tally {
     // By own class, the weight of the areas.
     weight: Vec<i128>,
+    // The own classes of the areas, and how many there are.
+    owned: Vec<u8>,
+    owners: usize,
     // By class, the length of the border to areas of that class outside.
     border: Vec<i128>,
     // By class, whether such an area is beside.
@@ -20,6 +23,8 @@ impl Tally {
         let classes = classes as usize;
         Ok(Tally {
             weight: vec![in alloc; 0; classes]?,
+            owned: vec![in alloc; 0; classes]?,
+            owners: 0,
             border: vec![in alloc; 0; classes]?,
             has_beside: vec![in alloc; false; classes]?,
         })
@@ -43,6 +48,7 @@ impl Tally {
     }
 
     pub(crate) fn clear(&mut self, net: &Net) {
+        self.owners = 0;
         for class in 0..net.classes() {
             put(&mut self.weight, class as usize, 0);
             put(&mut self.border, class as usize, 0);
@@ -53,6 +59,7 @@ impl Tally {
     // Tallies a whole region of a class.
     pub(crate) fn count(&mut self, net: &Net, state: &mut State, areas: &[u32], class: u8) {
         self.clear(net);
+        state.spend(net.classes() as usize);
         for area in areas {
             self.add(net, *area);
             self.add_borders(net, state, *area);
@@ -65,7 +72,12 @@ impl Tally {
     // Adds the weight of an area.
     fn add(&mut self, net: &Net, area: u32) {
         let own = net.own(area);
-        let weight = self.weight(own).wrapping_add(net.weight(area));
+        let before = self.weight(own);
+        if before == 0 {
+            put(&mut self.owned, self.owners, own);
+            self.owners = self.owners.saturating_add(1);
+        }
+        let weight = before.wrapping_add(net.weight(area));
         put(&mut self.weight, own as usize, weight);
     }
 
@@ -83,11 +95,9 @@ impl Tally {
     // What it costs to give all areas a class.
     pub(crate) fn recolouring(&self, net: &Net, class: u8) -> i128 {
         let mut sum = 0i128;
-        for own in 0..net.classes() {
-            let weight = self.weight(own);
-            if weight > 0 {
-                sum = sum.wrapping_add(weight.wrapping_mul(net.distance(own, class)));
-            }
+        for own in self.owned.get(..self.owners).unwrap_or(&[]) {
+            let distance = net.distance(*own, class);
+            sum = sum.wrapping_add(self.weight(*own).wrapping_mul(distance));
         }
         sum
     }

@@ -3,35 +3,26 @@ use crate::net::Net;
 use crate::searcher::Searcher;
 
 // How much work one turn may take.
-const TURN_WORK: u64 = 60_000;
+const TURN_WORK: u64 = 20_000;
 
 // The areas of the window in the first round.
 const WINDOW: u32 = 8;
 
-// In a later round: how many of a hundred turns paint areas, and by how much windows differ in size.
+// How many of a hundred turns paint areas in a later round.
 const PAINTS: u32 = 65;
 
+// By how much windows differ in size then, and by how much every fourth does.
 const SPREAD: u32 = 24;
 
 const WIDE: u32 = 40;
 
-// How many areas a painting is chosen from, and how many it paints.
+// How many areas a painting is chosen from, and how many it paints: at most as many, or at most a few.
 const RING: u32 = 8;
 
 const FEW: u32 = 2;
 
-// What is done to a window.
-#[derive(Clone, Copy)]
-enum Change {
-    // Each area goes back to its own class.
-    Free,
-    // The first so many areas get the class.
-    Paint {
-        class: u8,
-        count: u32,
-        is_grown: bool,
-    },
-}
+// How many of a hundred paintings are grown until their region is rich.
+const GROWN: u32 = 50;
 
 impl Searcher {
     // A turn at an area.
@@ -125,7 +116,7 @@ impl Searcher {
         let count = self.numbers.below(most).saturating_add(1);
         let size = self.numbers.below(RING).saturating_add(1);
         let mode = self.numbers.below(3);
-        let is_grown = self.numbers.is_hit(50);
+        let is_grown = self.numbers.is_hit(GROWN);
         self.lay_window(net, area, size);
         let class = self.class_to_paint(net, mode);
         self.paint_window(net, class, count);

@@ -9,7 +9,7 @@ use Rattle.greedy_start.specs.Tallies.{AreBest, IsStart, IsFirstNone}
 use Rattle.greedy_start.proofs.PartLemmas.{part_at_most}
 use Rattle.greedy_start.proofs.HopelessLemmas.{hopeless_law}
 use Rattle.greedy_start.proofs.RegionLemmas.{IsDone, start_feasible, start_numbered, start_one_each, first_hopeless}
-use Rattle.greedy_start.proofs.starts.start.Goals as goal
+use Rattle.greedy_start.proofs.starts.whole_parts.Goals as goal
 
 pub best_classes-requires-clause-parts : goal.best_classes-requires-clause-parts
 best_classes-requires-clause-parts c =
