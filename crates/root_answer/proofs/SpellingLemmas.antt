@@ -4,13 +4,14 @@ use Rattle.std.specs.Prelude.{ℤ, pos, All, ◌||◌, ◌==◌, slice_index_or}
 use Rattle.std.specs.Int.{w128}
 use Rattle.std.proofs.lemmas.Bool.{cases_lt}
 use Rattle.std.proofs.lemmas.List.Elements.{All-from_get_or}
-use Rattle.agg_base.specs.declared.limits.TheConstants.{AREAS, CLASSES}
+use Rattle.agg_base.specs.declared.limits.TheConstants.{AREAS, CLASSES, MARKS}
 use Rattle.agg_model.specs.Problem.{Problem, Grouping, IsProblem, IsFeasible, IsRising, areas}
 use Rattle.row_laws.specs.declared.row.Row.{Row}
-use Rattle.row_laws.specs.declared.row.Row.TheVariants.{Escape}
+use Rattle.row_laws.specs.declared.row.Row.TheVariants.{Border, Escape}
 use Rattle.row_laws.specs.declared.leaf.Leaf.TheVariants.{Sum}
 use Rattle.row_laws.specs.declared.tree.Tree.{Leaf as LeafNode}
-use Rattle.row_laws.specs.Values.{mark_count}
+use Rattle.row_laws.specs.Rows.{IsInForm}
+use Rattle.row_laws.specs.Values.{RowSum, IsSoundSum, row_in, mark_count}
 use Rattle.row_laws.specs.FirstSums.{void_sum, escape_rows, IsPartOf}
 use Rattle.row_laws.proofs.Tests.{by_test}
 use Rattle.row_laws.proofs.VoidLemmas.{within_part}
@@ -98,6 +99,38 @@ void_spelling p v part ok h is =
     product_most : (a b c d : ℕ) → a ≤ c → b ≤ d → a * b ≤ c * d
     product_most a b c d h k = grind arith
 
+sum_row_in_range : (p : Problem) (row : Row) → IsProblem p → IsInForm p row → IsRowInRange row
+sum_row_in_range p (Border l side k) ok form =
+    let links_few = ok.few_links in
+    let classes_few = ok.few_classes in
+    let here = form.0 in
+    let sides = form.1 in
+    let below = form.2 in
+    (omega arith, omega arith, omega arith)
+sum_row_in_range p (Escape v k set) ok form =
+    let areas_few = ok.few_areas in
+    let classes_few = ok.few_classes in
+    let here = form.area in
+    let below = form.class in
+    (omega arith, omega arith, All-from_get_or (λ s. s < AREAS) set 0 (λ i r. (let member = form.within i r in omega arith)), form.rising)
+
+-- a sound sum with few marks, whose multipliers can be stated
+pub sum_spelling : (p : Problem) (s : RowSum) → IsProblem p → IsSoundSum p s → All (λ row. IsMultiplier row.1) s.rows → mark_count s.rows ≤ MARKS
+    → HasTreeSpelling (LeafNode (Sum s))
+sum_spelling p s ok sound small few =
+    record {
+      in_range = record {
+        some = sound.denominator.above;
+        most = sound.denominator.below;
+        void = sound.denominator.whole;
+        rows = All-from_get_or (λ row. IsRowInRange row.0) s.rows (Border 0 0 0, pos 0) (λ i h. sum_row_in_range p (row_in s.rows i).0 ok (sound.rows i h).0);
+        multipliers = small;
+      };
+      depth = omega arith;
+      splits = omega arith;
+      marks = few;
+    }
+
 -- ---- certificates
 
 not_hopeless : (b c : ℤ) (status : CertStatus) → IsStatusOf b c status → is_hopeless status ≡ false
@@ -112,8 +145,8 @@ one_number n status is fits = record { there = sym is; fits = λ x e. subst (Fit
     inside a b h = cc
 
 pub grouping_spelling : (p : Problem) (c : Certificate) (n b : ℤ) → IsProblem p → IsFeasible p c.grouping → c.areas ≡ areas p → c.cost ≡ Some n → c.bound ≡ Some b
-    → FitsSigned w128 n → FitsSigned w128 b → IsStatusOf b n c.status → c.tree ≡ LeafNode (leaf_of p) → HasSpelling c
-grouping_spelling p c n b ok feasible count price bound fits_cost fits_bound status leaf =
+    → FitsSigned w128 n → FitsSigned w128 b → IsStatusOf b n c.status → HasTreeSpelling c.tree → HasSpelling c
+grouping_spelling p c n b ok feasible count price bound fits_cost fits_bound status tree =
     let not = not_hopeless b n c.status status in
     let numbered = feasible.numbered in
     let few = numbered.few in
@@ -128,7 +161,7 @@ grouping_spelling p c n b ok feasible count price bound fits_cost fits_bound sta
       regions = All-from_get_or (λ r. r < AREAS) c.grouping.region_of 0 (λ i h. (let below = numbered.in_range i (subst (λ m. i < m) numbered.one_each h) in omega arith));
       one_each = rw not (numbered.one_each ∙ sym count);
       none = λ e. absurd (clash (sym not ∙ e));
-      tree = subst HasTreeSpelling (sym leaf) (leaf_spelling p);
+      tree = tree;
     }
   where
     clash : false ≡ true → ⊥

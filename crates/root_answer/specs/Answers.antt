@@ -1,7 +1,7 @@
 -- What a certificate with one leaf states of a problem.
 use Rattle.std.specs.Prelude.{◌≡◌, ℕ, List, [], Some, None, ℤ, pos, ◌≤ℤ◌, ◌<ℤ◌, ◌⊎◌, ◌||◌, ◌==◌, Ok, if◌then◌else◌}
 use Rattle.agg_model.specs.Problem.{Problem, Grouping, IsFeasible, areas, cost}
-use Rattle.greedy_start.specs.Starts.{IsNumberedByLeast, IsOneRegionEach, IsFirstHopeless}
+use Rattle.greedy_start.specs.Starts.{IsNumberedByLeast, IsNoDearerThanParts, IsFirstHopeless}
 use Rattle.row_laws.specs.Values.{Allowed}
 use Rattle.row_laws.specs.Trees.{IsSoundTree, bound_of}
 use Rattle.row_laws.specs.Leaves.{IsSoundLeaf, leaf_answer, IsRoot}
@@ -46,17 +46,18 @@ IsRootLeaf p leaf =
 abbrev pub leaf_of : Problem → Leaf
 leaf_of p = (if (p.classes == 1) || (areas p == 0) then Fixed else Sum plain_sum)
 
--- A feasible grouping is stated, with its cost and a bound, which the tree's one leaf proves.
+-- A feasible grouping is stated that costs no more than one region for each part, with its cost and a bound, which the tree's one leaf proves.
 pub record StatesGrouping (p : Problem) (c : Certificate) : Type 0 where
   pub bound : ℤ
   pub feasible : IsFeasible p c.grouping
   pub numbered : IsNumberedByLeast p c.grouping
-  pub one_each : IsOneRegionEach p c.grouping
+  pub cheap : IsNoDearerThanParts p c.grouping
   pub states_cost : c.cost ≡ Some (cost p c.grouping)
   pub states_bound : c.bound ≡ Some bound
   pub is_bound : IsBound p bound
   pub status : IsStatusOf bound (cost p c.grouping) c.status
-  pub leaf : c.tree ≡ LeafNode (leaf_of p)
+  pub leaf : Leaf
+  pub is_leaf : c.tree ≡ LeafNode leaf
   pub proves : Proves p c.tree (Least bound)
 
 -- It is stated that no grouping is feasible, since the first hopeless part has none: the one whose least area this is. The void leaf over it proves that.

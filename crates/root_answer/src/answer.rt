@@ -11,8 +11,9 @@ use cert_text::Certificate;
 use greedy_start::{StartFault, start};
 use std::alloc::Global;
 
-/// The answer to a problem: one region for each part, in the open class of least recolouring, with its cost and the bound that the tree's one
-/// leaf proves; or that no grouping is feasible, which a void leaf over the first hopeless part proves. Its one refusal is want of memory.
+/// The answer to a problem: a feasible grouping that costs no more than one region for each part does, with its cost and the bound that the
+/// tree's one leaf proves; or that no grouping is feasible, which a void leaf over the first hopeless part proves. Its one refusal is want of
+/// memory.
 pub fn root_answer(alloc: Global, problem: &Problem) -> Result<Certificate, NoMemory>
     ensures states { IfOk result (λ certificate. States problem.now certificate) }
     ensures spelling { IfOk result (λ certificate. HasSpelling certificate) }
