@@ -4,3 +4,5 @@ pub mod Collections
 pub mod Adds
 pub mod Rules
 pub mod Faults
+pub mod Held
+pub mod Outcomes

@@ -10,7 +10,15 @@
 #![tactic(auto)]
 
 mod fault;
+mod feature;
 mod laws;
+mod outline;
+mod reader;
+mod ring;
 
 pub use fault::GeoFault;
 pub use laws::{layer_or_fault, layer_without_fault, one_fault, one_layer};
+pub use reader::read;
+
+#[cfg(test)]
+mod tests;
