@@ -190,7 +190,7 @@ exact_all arcs name at count steps tree =
     (λ rings is. exact_unless (count < 65536) (Limit Areas) Area (BehindClass arcs name steps tree rings) (FailsClass arcs name at steps tree rings) (room_or count)
     (λ room. exact_class arcs name at steps tree rings))
 
-area_behind : (arcs : List (List Point)) (name : List ℕ) (count steps : ℕ) (tree : Json) (area : Area) → BehindAll arcs name count steps tree area → IsAreaBehind arcs name count steps tree area
+pub area_behind : (arcs : List (List Point)) (name : List ℕ) (count steps : ℕ) (tree : Json) (area : Area) → BehindAll arcs name count steps tree area → IsAreaBehind arcs name count steps tree area
 area_behind arcs name count steps tree area s =
     let class = s.2.1 in
     let closed = class.2.1 in

@@ -18,3 +18,20 @@ pub mod Faulty
 mod Pieces
 mod Examples
 mod Refused
+-- values one at a time
+mod TreeLists
+mod PointLemmas
+mod FormLemmas
+mod HeadLemmas
+-- paths, thinned arcs, and what indexes tell of them
+mod PathLemmas
+mod StepLemmas
+mod ThinLemmas
+mod IndexLemmas
+mod AreaLemmas
+-- what reading answers
+mod TellLemmas
+mod LoopLemmas
+mod PlaceLemmas
+mod Within
+mod ReadLemmas

@@ -5,3 +5,9 @@ pub mod Rules
 pub mod ArcFaults
 pub mod PlaceFaults
 pub mod Faults
+pub mod Outcomes
+pub mod Indexes
+pub mod Thinned
+pub mod RingRules
+pub mod Names
+pub mod Origins
