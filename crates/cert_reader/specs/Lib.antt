@@ -1,0 +1,11 @@
+pub mod Lines
+pub mod CertLines
+pub mod LineReading
+pub mod Due
+pub mod Faults
+pub mod FirstFaults
+pub mod Reads
+pub mod Nodes
+pub mod Heads
+pub mod Same
+pub mod Laws
