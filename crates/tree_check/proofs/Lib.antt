@@ -1,0 +1,4 @@
+pub mod StageLemmas
+pub mod TreeStages
+pub mod NodeLemmas
+pub mod RootLemmas
