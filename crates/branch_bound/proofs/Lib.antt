@@ -1,0 +1,13 @@
+pub mod RankLemmas
+pub mod GrownLemmas
+pub mod ShapeLemmas
+pub mod PairLemmas
+pub mod PlaceLemmas
+pub mod RegionSteps
+pub mod JoinLemmas
+pub mod ComponentLemmas
+pub mod SearchLemmas
+pub mod EnoughLemmas
+pub mod ForkLemmas
+pub mod LawLemmas
+pub mod HalfLemmas

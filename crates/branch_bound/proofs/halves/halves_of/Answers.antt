@@ -1,0 +1,11 @@
+use Rattle.std.proofs.Common.{subst, sym, ℕ}
+use Rattle.std.proofs.lemmas.Result.{IfOk-weaker}
+use Rattle.bound_rows.specs.Domains.{allows}
+use Rattle.branch_bound.specs.Trees.{IsFork}
+use Rattle.branch_bound.specs.declared.halves.Halves.{Halves}
+use Rattle.branch_bound.proofs.HalfLemmas.{split_at}
+use Rattle.branch_bound.proofs.halves.halves_of.Goals as goal
+
+pub returns-clause-split : goal.returns-clause-split
+returns-clause-split g c =
+    split_at c.args.problem.now (allows c.args.place.domains) c.chosen_pair-area.result.area c.chosen_pair-area.result.class c.split_place.result c.chosen_pair-area.ensures c.split_place.ensures.area c.split_place.ensures.class

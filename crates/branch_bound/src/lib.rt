@@ -1,0 +1,19 @@
+//! Branch and bound: the best grouping that is found, and a tree of splits whose leaves prove a bound of all others.
+#![tactic(auto)]
+
+mod answer;
+mod components;
+mod growth;
+mod halves;
+mod hopeless;
+mod outcome;
+mod pairs;
+mod search;
+mod tips;
+mod values;
+
+pub use answer::solve;
+pub use outcome::{Kind, Outcome};
+
+#[cfg(test)]
+mod tests;
