@@ -1,6 +1,8 @@
 // What sums of rows are worth, and which fault comes first.
 use crate::fixtures::{only, row, rows, triangle, worth};
-use bound_rows::{Bound, Domains, Entry, Leaf, LeafProof, Row, RowSum, Tree, Unsound, Weak, marks};
+use bound_rows::{
+    Bound, Domains, Entry, Leaf, LeafProof, Row, RowSum, Scratch, Tree, Unsound, Weak, marks,
+};
 use std::test::Fail;
 
 const MOST: i128 = i128::MAX;
@@ -180,6 +182,26 @@ fn the_third_area_in_the_total(rt: HostRuntime) -> Result<(), Fail> {
 }
 
 #[test]
+fn the_second_area_before_the_third(rt: HostRuntime) -> Result<(), Fail> {
+    let alloc = rt.alloc();
+    let problem = row(alloc)?;
+    let mut domains = Domains::whole(alloc, &problem)?;
+    only(&mut domains, 0, 1, 0)?;
+    only(&mut domains, 1, 0, 1)?;
+    only(&mut domains, 2, 1, 0)?;
+    // What is left is 10 less the most at areas 0 and 2, 512 more at area 1, and 256 - 512 at link 1.
+    let rows = rows(
+        alloc,
+        &[(1, 0, 0, 512)],
+        &[(0, 0, &[0], MOST), (1, 1, &[1], MOST)],
+    )?;
+    let value = worth(alloc, &costs(1, rows)?, &problem, &domains)?;
+    let entry = Entry::TotalArea { area: 1 };
+    assert_eq!(rt; value, Err(Weak::Wide { entry }));
+    Ok(())
+}
+
+#[test]
 fn the_first_fault_of_two(rt: HostRuntime) -> Result<(), Fail> {
     let alloc = rt.alloc();
     let problem = row(alloc)?;
@@ -247,5 +269,6 @@ fn copies_cross_threads(rt: HostRuntime) -> Result<(), Fail> {
     crosses_threads(&sum);
     let tree = Tree::Leaf(Leaf::Sum(sum)).copy(alloc)?;
     crosses_threads(&tree);
+    crosses_threads(&Scratch::new(alloc, &problem)?);
     Ok(())
 }
