@@ -1,18 +1,20 @@
 #!/usr/bin/env python3
-"""Compares the program with the second implementation on random maps and tables: compare.py PROGRAM RUNS SEED [--judged N] [FORMAT ..]
+"""Compares the program with the second implementation on random maps and tables: compare.py PROGRAM RUNS SEED [--splits N] [FORMAT ..]
 
-The formats, `grid`, `topojson` and `geojson`, take turns; without any named all three do. Exit codes, said texts, certificates and written
-maps are compared byte by byte. In about a third of the runs a text is changed at random places of its bytes or of its values, so that
-refusals are compared too. Beside that the written map is held against the certificate. For a grid the middle of each cell lies in the drawn
-region of the cell's area and in no other, and in none where there is no data. For polygons the edges of each drawn region are those that
-an odd number of its areas have. The second judge finds the certificate valid.
+The formats, `grid`, `topojson` and `geojson`, take turns; without any named all three do. In about a third of the runs a text is changed at
+random places of its bytes or of its values, so that refusals are compared too. Refusals, and answers that no grouping is feasible, are
+compared byte by byte: exit codes, said texts and certificates.
 
-The second implementation draws one region for each part of a map and splits nothing. With `--judged N` the program runs with `--splits N`
-and may do better: then refusals are compared as before, and other answers are judged. The certificate must be valid and cost no more, the
-report and the exit code must say what it says, and the written map must be that of its regions.
+The second implementation draws one region for each part of a map and splits nothing; the program may do better, with `--splits N` or 0
+splits. So its other answers are judged. The second judge must find the certificate valid: the grouping feasible, its cost as stated, and the
+bound that of the tree. It may cost no more than one region for each part, its regions are numbered by their least areas, and its tree has
+at most N splits. The report and the exit code must say what the certificate says, and the written map must be byte for byte that of its
+regions. Beside that the written map is held against the certificate in another way. For a grid the middle of each cell lies in the drawn
+region of the cell's area and in no other, and in none where there is no data. For polygons the edges of each drawn region are those that an
+odd number of its areas have.
 
-It prints the first run that differs, or how many agreed, by format, exit code and fault. PROGRAM may be
-`tools/reference.py` itself, which tests this tool. It takes no part in any proof.
+It prints the first run that differs, or how many agreed, by format, exit code and fault, and how many answers cost less than one region for
+each part. PROGRAM may be `tools/reference.py` itself, which tests this tool. It takes no part in any proof.
 """
 import collections
 import json
@@ -210,7 +212,7 @@ def due_answer(asked, map_text, table_text, certificate):
 
 
 def is_due(asked, map_text, table_text, got, due, splits):
-    """Whether an answer says what its certificate says, or is the due one where there is no grouping."""
+    """Whether an answer says what its certificate says and costs no more than the due one, or is the due one where that has no grouping."""
     if due[0] not in (0, 3) or got[2] is None:
         return got == due
     certificate = certificates.read(got[2])
@@ -221,10 +223,15 @@ def is_due(asked, map_text, table_text, got, due, splits):
     return few and firsts == sorted(firsts) and got == due_answer(asked, map_text, table_text, certificate)
 
 
+def is_cheaper(got, due):
+    """Whether an answer costs less than one region for each part."""
+    return got[0] in (0, 3) and certificates.read(got[2]).cost < certificates.read(due[2]).cost
+
+
 def parsed(words):
-    """The program, the number of runs, the random numbers, the splits where answers are judged, and the formats."""
-    splits = None
-    if len(words) > 4 and words[3] == "--judged":
+    """The program, the number of runs, the random numbers, the splits, and the formats."""
+    splits = 0
+    if len(words) > 4 and words[3] == "--splits":
         splits = int(words[4])
         del words[3:5]
     forms = words[3:] or FORMS
@@ -235,20 +242,22 @@ def parsed(words):
 
 def main():
     program, runs, dice, splits, forms = parsed(sys.argv[1:])
-    codes = collections.Counter()
+    codes, cheaper = collections.Counter(), 0
     with tempfile.TemporaryDirectory() as folder:
         for at in range(runs):
             asked, map_text, table_text = random_run(dice, forms[at % len(forms)])
-            got = run(program, folder, dice, asked, splits or 0, map_text, table_text)
+            got = run(program, folder, dice, asked, splits, map_text, table_text)
             due = answer(asked, map_text, table_text)
-            same = got == due if splits is None else is_due(asked, map_text, table_text, got, due, splits)
+            same = is_due(asked, map_text, table_text, got, due, splits)
             if not (same and is_drawn(asked, map_text, got[2], got[3]) and is_valid(asked, map_text, table_text, got)):
                 print(f"{asked}\nmap {map_text!r}\ntable {table_text!r}\nprogram {got!r}\nreference {due!r}")
                 sys.exit(1)
+            cheaper += is_cheaper(got, due)
             words = got[1].decode().split() if got[0] == 65 else []
             codes[asked.form, got[0], " ".join(word for word in words if word.strip("-0123456789"))] += 1
     for (form, code, line), count in sorted(codes.items()):
         print(count, form, code, line)
+    print(cheaper, "cheaper than one region for each part")
 
 
 if __name__ == "__main__":
