@@ -2,7 +2,6 @@ pub mod RankLemmas
 pub mod GrownLemmas
 pub mod ShapeLemmas
 pub mod PairLemmas
-pub mod PlaceLemmas
 pub mod RegionSteps
 pub mod JoinLemmas
 pub mod ComponentLemmas

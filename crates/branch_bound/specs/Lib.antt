@@ -5,5 +5,4 @@ pub mod Trees
 pub mod Components
 pub mod Outcomes
 pub mod Searches
-pub mod Places
 pub mod Enough

@@ -8,7 +8,7 @@ use Rattle.agg_model.specs.Parts.{AreParts}
 use Rattle.greedy_start.specs.Starts.{IsFirstHopeless}
 use Rattle.greedy_start.proofs.PartLemmas.{one_number, one_way, parts_law}
 use Rattle.row_laws.specs.FirstSums.{IsPartOf}
-use Rattle.root_answer.specs.Places.{ArePlaces}
+use Rattle.hopeless_parts.specs.Places.{ArePlaces}
 
 -- the areas whose part has that number are the part of its least area
 pub part_places : (p : Problem) (area : ℕ) (parts places : List ℕ) → IsFirstHopeless p area → length parts ≡ areas p

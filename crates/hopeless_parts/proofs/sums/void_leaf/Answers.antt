@@ -3,7 +3,7 @@ use Rattle.std.specs.Prelude.{pos}
 use Rattle.std.proofs.lemmas.List.FromFn.{length-map-range_with_len, map-range_with_len_more}
 use Rattle.row_laws.specs.declared.row.Row.TheVariants.{Escape}
 use Rattle.row_laws.specs.FirstSums.{escape_rows}
-use Rattle.root_answer.proofs.hopeless.void_leaf.Goals as goal
+use Rattle.hopeless_parts.proofs.sums.void_leaf.Goals as goal
 
 pub loop-class-preserved : goal.loop-class-preserved
 loop-class-preserved c =

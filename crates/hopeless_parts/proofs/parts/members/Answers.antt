@@ -1,7 +1,7 @@
 use Rattle.std.proofs.Common.{rules, tests, ◌≡◌, ◌≢◌, ◌++◌, ◌∷◌, [], slice_index, subst, sym}
-use Rattle.branch_bound.proofs.PlaceLemmas.{ArePlacesBelow, no_places, place_more, place_passed, all_places}
-use Rattle.branch_bound.proofs.hopeless.members.Goals as goal
-use Rattle.branch_bound.proofs.hopeless.members.Goals.{then-numbers-place+in_ok-push, else-numbers-place}
+use Rattle.hopeless_parts.proofs.PlaceLemmas.{ArePlacesBelow, no_places, place_more, place_passed, all_places}
+use Rattle.hopeless_parts.proofs.parts.members.Goals as goal
+use Rattle.hopeless_parts.proofs.parts.members.Goals.{then-numbers-place+in_ok-push, else-numbers-place}
 
 pub loop-place-init : goal.loop-place-init
 loop-place-init c = no_places _ _ _ (search rules)

@@ -1,6 +1,6 @@
 use Rattle.std.proofs.lemmas.Result.{IfOk-weaker}
-use Rattle.root_answer.proofs.PlaceLemmas.{part_places}
-use Rattle.root_answer.proofs.hopeless.places_of.Goals as goal
+use Rattle.hopeless_parts.proofs.PlaceLemmas.{part_places}
+use Rattle.hopeless_parts.proofs.parts.places_of.Goals as goal
 
 pub returns : goal.returns
 returns c =
