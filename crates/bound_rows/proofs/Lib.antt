@@ -12,3 +12,4 @@ pub mod AnswerLemmas
 pub mod StartLemmas
 pub mod OfferLemmas
 pub mod KindLemmas
+pub mod ScratchLemmas

@@ -11,3 +11,7 @@ pub record IsScratchFor (p : Problem) (s : Scratch) : Type 0 where
   pub marks : AreMarks (areas p) s.marks
   pub kinds : length s.kinds.items ≡ areas p
   pub components : IsRoomFor p s.room
+
+-- it is for each problem that the first scratch is for
+abbrev pub IsForSame : Scratch → Scratch → Type 0
+IsForSame old new = (p : Problem) → IsScratchFor p old → IsScratchFor p new

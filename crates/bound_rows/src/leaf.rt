@@ -48,6 +48,7 @@ impl Scratch {
         requires domains { IsFor problem.now domains.now }
         requires scratch { IsScratchFor problem.now self.old }
         ensures scratch { IsScratchFor problem.now self.new }
+        ensures ways { self.new.ways ≡ self.old.ways }
         ensures value { result ≡ fixed_value problem.now (kind_in problem.now (allows domains.now)) }
     {
         take_kinds(&mut self.kinds, problem, domains);

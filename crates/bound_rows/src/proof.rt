@@ -7,7 +7,7 @@ ghost use Rattle.row_laws.specs.declared.bound.Weak.{Weak};
 ghost use Rattle.row_laws.specs.declared.bound.Unsound.{Unsound};
 ghost use Rattle.row_laws.specs.Trees.{LeafLaw, TreeLaw};
 ghost use Rattle.bound_rows.specs.Domains.{allows, IsFor};
-ghost use Rattle.bound_rows.specs.Scratches.{IsScratchFor};
+ghost use Rattle.bound_rows.specs.Scratches.{IsScratchFor, IsForSame};
 
 use crate::{Bound, Domains, Scratch, Unsound, Weak};
 use agg_model::Problem;
@@ -29,7 +29,7 @@ pub trait LeafProof {
         ensures sound { IsOk result ↔ sound_at self.now problem.now (allows domains.now) }
         ensures fault { IfErr result (fault_at self.now problem.now (allows domains.now)) };
 
-    /// What the leaf is worth, or why it is weak. The scratch is afterwards for the same problem as before; nothing else of its contents is
+    /// What the leaf is worth, or why it is weak. The scratch is afterwards for the same problems as before; nothing else of its contents is
     /// promised. It takes no memory.
     fn value(
         &self,
@@ -41,6 +41,7 @@ pub trait LeafProof {
         requires domains { IsFor problem.now domains.now }
         requires scratch { IsScratchFor problem.now scratch.old }
         ensures scratch { IsScratchFor problem.now scratch.new }
+        ensures same { IsForSame scratch.old scratch.new }
         ensures value { result ≡ answer_at self.now problem.now (allows domains.now) };
 
     /// A sound leaf's value holds of every feasible grouping inside the domains.

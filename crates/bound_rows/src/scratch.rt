@@ -54,6 +54,7 @@ impl Scratch {
         requires good { AreGoodRows problem.now rows.now (length rows.now) }
         requires scratch { IsScratchFor problem.now self.old }
         ensures scratch { IsScratchFor problem.now self.new }
+        ensures ways { self.new.ways ≡ self.old.ways }
         ensures run { (f : Place → ℤ) → IsAt problem.now f self.old.numbers → IsRun problem.now (run f (moves problem.now rows.now)) result self.new.numbers }
     {
         for (row, multiplier) in rows {
@@ -69,6 +70,7 @@ impl Scratch {
         requires sign { pos 0 ≤ℤ multiplier }
         requires scratch { IsScratchFor problem.now self.old }
         ensures scratch { IsScratchFor problem.now self.new }
+        ensures ways { self.new.ways ≡ self.old.ways }
         ensures run { (f : Place → ℤ) → IsAt problem.now f self.old.numbers → IsRun problem.now (run f (scale multiplier (entries problem.now row.now))) result self.new.numbers }
     {
         match row {
@@ -97,6 +99,7 @@ impl Scratch {
         requires sign { pos 0 ≤ℤ multiplier }
         requires scratch { IsScratchFor problem.now self.old }
         ensures scratch { IsScratchFor problem.now self.new }
+        ensures ways { self.new.ways ≡ self.old.ways }
         ensures run { (f : Place → ℤ) → IsAt problem.now f self.old.numbers → IsRun problem.now (run f (scale multiplier (entries problem.now (Escape area class set.now)))) result self.new.numbers }
     {
         self.numbers.take_choice(problem, area, class, -multiplier)?;
@@ -123,6 +126,7 @@ impl Scratch {
         requires scratch { IsScratchFor problem.now self.old }
         requires members { (v : ℕ) → v < areas problem.now → has_mark self.old.marks v ≡ is_in set.now v }
         ensures scratch { IsScratchFor problem.now self.new }
+        ensures ways { self.new.ways ≡ self.old.ways }
         ensures taken { (f : Place → ℤ) → IsAt problem.now f self.old.numbers → IsTaken problem.now f class amount (is_neighbour problem.now set.now) result self.new.numbers }
     {
         let mut worst = None;
@@ -149,6 +153,7 @@ impl Scratch {
         requires scratch { IsScratchFor problem.now self.old }
         requires members { (v : ℕ) → v < areas problem.now → is_in set.now v ≡ true → has_mark self.old.marks v ≡ true }
         ensures scratch { IsScratchFor problem.now self.new }
+        ensures ways { self.new.ways ≡ self.old.ways }
         ensures kept { (v : ℕ) → v < areas problem.now → has_mark self.old.marks v ≡ true → has_mark self.new.marks v ≡ true }
         ensures seen { HasSeen problem.now member 0 self.new.marks }
         ensures sound { AreSoundMarks problem.now set.now self.old.marks → AreSoundMarks problem.now set.now self.new.marks }

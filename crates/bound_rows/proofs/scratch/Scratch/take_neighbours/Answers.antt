@@ -15,10 +15,11 @@ loop-area-preserved c =
     let inv = c.loop-area.invariant in
     let ways = c.take_ways-worst.ensures in (
       ways.scratch,
-      λ v hv t. ways.kept v hv (inv.1 v hv t),
-      ways.sound inv.2,
-      seen_next c.args.problem.now c.args.set.now c.loop-area.area-index c.loop-area.self.marks c.take_ways-worst.new.self.marks c.requires.rules c.loop-area-test.true ways.kept ways.seen inv.3,
-      λ f h. ways.taken f (inv.4 f h),
+      ways.ways ∙ inv.1,
+      λ v hv t. ways.kept v hv (inv.2 v hv t),
+      ways.sound inv.3,
+      seen_next c.args.problem.now c.args.set.now c.loop-area.area-index c.loop-area.self.marks c.take_ways-worst.new.self.marks c.requires.rules c.loop-area-test.true ways.kept ways.seen inv.4,
+      λ f h. ways.taken f (inv.5 f h),
     )
 
 pub returns-clause-taken : goal.returns-clause-taken
@@ -28,5 +29,5 @@ returns-clause-taken c = λ f h.
     let inv = c.loop-area.invariant in
     let end : length set ≤ c.loop-area.area-index = c.loop-area-test.false in
     taken_same p f c.args.class c.args.amount (counted set c.loop-area.self.marks) (is_neighbour p set) c.loop-area.worst c.loop-area.self.numbers
-    (counted_all p set c.loop-area.self.marks inv.1 inv.2 (λ u t. inv.3 u (is_in_all set c.loop-area.area-index u end ∙ t)))
-    (subst (λ (m : ℤ). IsTaken p f c.args.class m (counted set c.loop-area.self.marks) c.loop-area.worst c.loop-area.self.numbers) (to_z-of_z w128 c.args.amount c.ranges.amount) (inv.4 f h))
+    (counted_all p set c.loop-area.self.marks inv.2 inv.3 (λ u t. inv.4 u (is_in_all set c.loop-area.area-index u end ∙ t)))
+    (subst (λ (m : ℤ). IsTaken p f c.args.class m (counted set c.loop-area.self.marks) c.loop-area.worst c.loop-area.self.numbers) (to_z-of_z w128 c.args.amount c.ranges.amount) (inv.5 f h))

@@ -6,6 +6,7 @@ use Rattle.row_laws.specs.declared.bound.Weak.TheVariants.{Wide}
 use Rattle.bound_rows.specs.Domains.{allows}
 use Rattle.bound_rows.specs.Scratch.{IsRun}
 use Rattle.bound_rows.proofs.AnswerLemmas.{wide_answer, total_answer}
+use Rattle.bound_rows.proofs.ScratchLemmas.{for_same}
 use Rattle.bound_rows.proofs.sums.RowSumLeafProof.value.Goals as goal
 
 -- the sum that the code reads
@@ -41,3 +42,9 @@ returns-in-Ok-clause-value c =
     (subst (λ (rows : List (Row × ℤ)). IsRun p (run (start_at p s) (moves p rows)) (Ok tt) c.take_rows.new.self.numbers) c.deref.ensures.value
     (c.in-Ok.ensures.run (start_at p s) (c.start.ensures.start s refl refl)))
     (λ f at. c.worth.ensures ∙ ap (λ r. finish c.self.inside.void c.self.inside.denominator r) (c.total.ensures f at)))
+
+pub returns-in-Err-clause-same : goal.returns-in-Err-clause-same
+returns-in-Err-clause-same c = for_same c.args.problem.now c.args.scratch.now c.take_rows.new.self c.requires.scratch c.in-Err.ensures.scratch c.in-Err.ensures.ways
+
+pub returns-in-Ok-clause-same : goal.returns-in-Ok-clause-same
+returns-in-Ok-clause-same c = for_same c.args.problem.now c.args.scratch.now c.take_rows.new.self c.requires.scratch c.in-Ok.ensures.scratch c.in-Ok.ensures.ways
