@@ -163,8 +163,7 @@ impl Relaxation {
         if self.net.units.worth(self.best) >= goal {
             return Ok(true);
         }
-        self.trim(alloc)?;
-        let added = self.separate()?;
+        let added = self.renew_rows(alloc)?;
         let patience = patience(self.net.areas);
         if pace.is_done(self.best, step, patience, added, self.rows.len()) {
             return Ok(true);
@@ -173,6 +172,15 @@ impl Relaxation {
         self.tilt = self.distance(&self.image, &self.anchor).tilted(self.tilt);
         self.weigh();
         Ok(false)
+    }
+
+    // Drops rows and adds others, and says how many it added. A narrow relaxation keeps those that it has.
+    fn renew_rows(&mut self, alloc: Global) -> Result<usize, NoMemory> {
+        if self.is_narrow {
+            return Ok(0);
+        }
+        self.trim(alloc)?;
+        self.separate()
     }
 
     // Begins anew at the image, or goes on beyond it.

@@ -10,7 +10,9 @@
 mod ascent;
 mod fixed;
 mod growth;
+mod hints;
 mod lists;
+mod narrow;
 mod net;
 mod point;
 mod provider;

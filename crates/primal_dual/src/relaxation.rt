@@ -44,6 +44,9 @@ pub(crate) struct Relaxation {
     pub(crate) rate: Vec<i64>,
     pub(crate) tilt: u32,
     pub(crate) growth: Growth,
+    // Whether the steps move what the thinned sum has alone, and by link and kind the flows that they then leave at 0.
+    pub(crate) is_narrow: bool,
+    pub(crate) is_shut: Vec<bool>,
 }
 
 impl Relaxation {
@@ -69,6 +72,8 @@ impl Relaxation {
             rate: vec![in alloc; 0; net.areas]?,
             tilt: EVEN,
             growth: Growth::of(alloc, net.areas)?,
+            is_narrow: false,
+            is_shut: Vec::new(alloc),
             net,
         };
         relaxation.begin();
@@ -196,16 +201,21 @@ impl Relaxation {
         if kept.len() == self.rows.len() {
             return Ok(());
         }
+        self.keep_rows(alloc, &kept)
+    }
+
+    // Drops the other rows.
+    pub(crate) fn keep_rows(&mut self, alloc: Global, kept: &[usize]) -> Result<(), NoMemory> {
         let mut rows = Rows::none(alloc, self.net.cost.len())?;
-        for place in &kept {
+        for place in kept {
             rows.push_from(&self.rows, *place)?;
         }
         self.rows = rows;
-        self.now.keep(alloc, &kept)?;
-        self.image.keep(alloc, &kept)?;
-        self.anchor.keep(alloc, &kept)?;
-        self.start.keep(alloc, &kept)?;
-        self.best_prices = crate::point::picked(alloc, &self.best_prices, &kept)?;
+        self.now.keep(alloc, kept)?;
+        self.image.keep(alloc, kept)?;
+        self.anchor.keep(alloc, kept)?;
+        self.start.keep(alloc, kept)?;
+        self.best_prices = crate::point::picked(alloc, &self.best_prices, kept)?;
         Ok(())
     }
 

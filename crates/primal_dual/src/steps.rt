@@ -78,7 +78,8 @@ impl Relaxation {
         for tie in &self.net.ties {
             let end = first.wrapping_add(kinds);
             let images = &mut self.image.flows;
-            if is_moved(images, &self.now.flows, &self.ahead, *tie, first..end, bits) {
+            let (flows, ahead) = (&self.now.flows, &self.ahead);
+            if is_moved(images, flows, ahead, &self.is_shut, *tie, first..end, bits) {
                 to_ball(images, first, end, tie.pull);
             }
             first = end;
@@ -142,11 +143,12 @@ impl Relaxation {
     }
 }
 
-// Moves the flows of one link, and says whether one of them is not 0.
+// Moves the flows of one link that are not shut, and says whether one of them is not 0.
 fn is_moved(
     images: &mut [i64],
     flows: &[i64],
     ahead: &[i64],
+    is_shut: &[bool],
     tie: Tie,
     places: Range<usize>,
     bits: u32,
@@ -156,7 +158,11 @@ fn is_moved(
     for place in places {
         let near = at(ahead, tie.near.wrapping_add(kind), 0);
         let far = at(ahead, tie.far.wrapping_add(kind), 0);
-        let moved = moved_flow(at(flows, place, 0), tie.pull, near.wrapping_sub(far), bits);
+        let moved = if at(is_shut, place, false) {
+            0
+        } else {
+            moved_flow(at(flows, place, 0), tie.pull, near.wrapping_sub(far), bits)
+        };
         put(images, place, moved);
         is_flowing |= moved != 0;
         kind = kind.wrapping_add(1);

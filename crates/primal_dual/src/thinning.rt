@@ -1,4 +1,5 @@
-// Takes rows out of the best sum: those that cost nothing, and more until it has few enough marks.
+// Takes rows out of the best sum: those that cost nothing, and then those that lose least for their marks, until it has few enough.
+use crate::fixed::{clamped, over};
 use crate::lists::{at, put, raise};
 use crate::net::Net;
 use crate::reduced::{least, pay_row, reduce};
@@ -7,12 +8,15 @@ use crate::relaxation::Relaxation;
 // The marks of a row without its members.
 pub(crate) const ROW_MARKS: u64 = 8;
 
-// How often the loss for each mark may be doubled.
-const MOST_DOUBLINGS: u32 = 50;
+// The first loss for each mark that is taken is so small a part of what a mark is worth.
+const FIRST_PART: i128 = 64;
+
+// How often it may grow by a quarter.
+const MOST_GROWTHS: u32 = 200;
 
 impl Relaxation {
-    // Thins the best sum to so many marks.
-    pub(crate) fn thin(&mut self, share: u64) {
+    // Thins the best sum to so many marks, and says whether rows were dropped that count.
+    pub(crate) fn thin(&mut self, share: u64) -> bool {
         reduce(
             &mut self.left,
             &self.net,
@@ -20,16 +24,28 @@ impl Relaxation {
             &self.best_flows,
             &self.best_prices,
         );
-        let mut loss = 0i64;
-        for _ in 0..MOST_DOUBLINGS {
-            self.drop_rows(loss);
-            self.drop_flows(loss);
+        self.drop_rows(0, 0);
+        self.drop_flows(0, 0);
+        let is_cut = self.marks() > share;
+        if is_cut {
+            self.cut(share);
+        }
+        self.best = self.total();
+        is_cut
+    }
+
+    // Drops rows that lose more and more for each mark, until so many marks are left.
+    fn cut(&mut self, share: u64) {
+        let mean = over(self.total(), i128::from(self.marks()));
+        let mut loss = clamped(over(mean, FIRST_PART)).max(1);
+        for _ in 0..MOST_GROWTHS {
+            self.drop_rows(loss, share);
+            self.drop_flows(loss, share);
             if self.marks() <= share {
                 break;
             }
-            loss = loss.saturating_mul(2).max(1);
+            loss = loss.saturating_add(loss / 4).saturating_add(1);
         }
-        self.best = self.total();
     }
 
     // The marks of the best sum.
@@ -57,16 +73,20 @@ impl Relaxation {
         (self.rows.row(place).members.len() as u64).saturating_add(ROW_MARKS)
     }
 
-    // Drops the escape rows that lose no more than so much for each mark.
-    fn drop_rows(&mut self, loss: i64) {
+    // Drops escape rows that lose no more than so much for each mark, while there are more marks than the share.
+    fn drop_rows(&mut self, loss: i64, share: u64) {
+        let mut marks = self.marks();
         for place in 0..self.rows.len() {
+            if marks <= share {
+                break;
+            }
             let price = at(&self.best_prices, place, 0);
-            if price != 0
-                && self.row_loss(place, price)
-                    <= i128::from(loss).wrapping_mul(i128::from(self.marks_of(place)))
-            {
+            let own = self.marks_of(place);
+            let limit = i128::from(loss).wrapping_mul(i128::from(own));
+            if price != 0 && self.row_loss(place, price) <= limit {
                 pay_row(&mut self.left, self.rows.row(place), price.wrapping_neg());
                 put(&mut self.best_prices, place, 0);
+                marks = marks.saturating_sub(own);
             }
         }
     }
@@ -98,20 +118,25 @@ impl Relaxation {
         )
     }
 
-    // Drops the flows that lose no more than so much for each mark.
-    fn drop_flows(&mut self, loss: i64) {
+    // Drops flows that lose no more than so much for each mark, while there are more marks than the share.
+    fn drop_flows(&mut self, loss: i64, share: u64) {
         let limit = i128::from(loss).wrapping_mul(i128::from(ROW_MARKS));
+        let mut marks = self.marks();
         for link in 0..self.net.ties.len() {
-            self.drop_flows_of(link, limit);
+            if marks <= share {
+                break;
+            }
+            marks = marks.saturating_sub(self.drop_flows_of(link, limit));
         }
     }
 
-    // Those of one link.
-    fn drop_flows_of(&mut self, link: usize, limit: i128) {
+    // Those of one link. Says how many marks they had.
+    fn drop_flows_of(&mut self, link: usize, limit: i128) -> u64 {
         let kinds = self.net.kinds();
         let Some(tie) = self.net.ties.get(link).copied() else {
-            return;
+            return 0;
         };
+        let mut marks = 0u64;
         for kind in 0..kinds {
             let place = link.wrapping_mul(kinds).wrapping_add(kind);
             let flow = at(&self.best_flows, place, 0);
@@ -125,8 +150,10 @@ impl Relaxation {
                 raise(&mut self.left, near, flow.wrapping_neg());
                 raise(&mut self.left, far, flow);
                 put(&mut self.best_flows, place, 0);
+                marks = marks.saturating_add(ROW_MARKS);
             }
         }
+        marks
     }
 }
 
