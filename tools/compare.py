@@ -1,25 +1,26 @@
 #!/usr/bin/env python3
-"""Compares the program with the second implementation on random maps and tables: compare.py PROGRAM RUNS SEED [--splits N] [FORMAT ..]
+"""Compares the program with the second implementation on random maps and tables:
 
-The formats, `grid`, `topojson` and `geojson`, take turns; without any named all three do. In about a third of the runs a text is changed at
+    compare.py PROGRAM RUNS SEED [--splits N] [--keep FILE] [--batch N] [FORMAT ..]
+
+The formats, `grid`, `topojson` and `geojson`, take turns; without any named all three do. In every third run of a format a text is changed at
 random places of its bytes or of its values, so that refusals are compared too. Refusals, and answers that no grouping is feasible, are
 compared byte by byte: exit codes, said texts and certificates.
 
-The second implementation draws one region for each part of a map and splits nothing; the program may do better, with `--splits N` or 0
-splits. So its other answers are judged. The second judge must find the certificate valid: the grouping feasible, its cost as stated, and the
-bound that of the tree. It may cost no more than one region for each part, its regions are numbered by their least areas, and its tree has
-at most N splits. The report and the exit code must say what the certificate says, and the written map must be byte for byte that of its
-regions. Beside that the written map is held against the certificate in another way. For a grid the middle of each cell lies in the drawn
-region of the cell's area and in no other, and in none where there is no data. For polygons the edges of each drawn region are those that an
-odd number of its areas have.
+The second implementation draws one region for each part of a map and splits nothing; the program may do better, with 0 to N splits, a random
+number in each run. So its other answers are judged. The second judge must find the certificate valid: the grouping feasible, its cost as
+stated, and the bound that of the tree. It may cost no more than one region for each part, its regions are numbered by their least areas, and
+its tree has at most so many splits. The report and the exit code must say what the certificate says, and the written map must be byte for
+byte that of its regions. Beside that the written map is held against the certificate in another way. For a grid the middle of each cell lies
+in the drawn region of the cell's area and in no other, and in none where there is no data. For polygons the edges of each drawn region are
+those that an odd number of its areas have.
 
-It prints the first run that differs, or how many agreed, by format, exit code and fault, and how many answers cost less than one region for
-each part. PROGRAM may be `tools/reference.py` itself, which tests this tool. It takes no part in any proof.
+It prints the first run that differs, or how many agreed, by format, exit code and fault, and a line that sums up. With `--keep FILE` it keeps
+there how far it is, and goes on from there when it is called again; with `--batch N` it ends after N runs. PROGRAM may be
+`tools/reference.py` itself, which tests this tool. It takes no part in any proof.
 """
-import collections
 import json
 import os
-import random
 import subprocess
 import sys
 import tempfile
@@ -30,6 +31,7 @@ from command_words import Asked
 from layout import edge, map_text as map_text_of, steps
 from random_maps import CLASSES, random_map
 from reference import PolygonMap, answer, borders_of, bytes_of, load, patches_of, read_grid
+from tally import Tally, take_option
 from topology import regions, ring_of
 
 FORMS = ["grid", "topojson", "geojson"]
@@ -37,7 +39,8 @@ GRID_BYTES = b" \t\r\n0123456789-.abcelnorsw#\xc3\xff\x00"
 JSON_BYTES = b' \n0123456789-.eE+[]{}:,"\\nulltrueuDd8cC\xc3\xa4\xed\xf4\xff\x00\x1f'
 
 
-def random_grid(dice):
+def random_grid(dice, strange):
+    """A grid, with a line that does not belong there where that is wanted."""
     columns, rows = dice.randint(1, 9), dice.randint(1, 7)
     values = dice.sample(["1", "2", "3", "-9999", "0", "007", "5.0", "-4"], dice.randint(1, 4))
     head = [f"ncols {columns}", f"nrows {rows}", "xllcorner 0", "yllcorner -1.5e3", "cellsize 1"]
@@ -47,16 +50,17 @@ def random_grid(dice):
         dice.shuffle(head)
     if dice.random() < 0.3:
         head = [line.upper() if dice.random() < 0.5 else line for line in head]
-    if dice.random() < 0.2:
-        strange = ["", " \t", "XLLCENTER 1", "dx 1", "ncols 3", "ncols 3 4"]
-        head.insert(dice.randint(0, len(head)), dice.choice(strange))
+    if strange or dice.random() < 0.1:
+        lines = ["XLLCENTER 1", "dx 1", "ncols 3", "ncols 3 4", "1 2"] if strange else ["", " \t"]
+        head.insert(dice.randint(0, len(head)), dice.choice(lines))
     body = []
     for _ in range(rows):
         body.append(dice.choice([" ", "  ", "\t"]).join(dice.choice(values) for _ in range(columns)))
     return spelled(dice, head + body)
 
 
-def random_table(dice):
+def random_table(dice, strange):
+    """A table of most of the classes that a map may have, with a line that does not belong there where that is wanted."""
     names = dice.sample(CLASSES, dice.choice([10, 10, 10, dice.randint(1, 10)]))
     out = ["classes 1"]
     if dice.random() < 0.4:
@@ -67,9 +71,9 @@ def random_table(dice):
         row = [dice.choice([0, 5, 300, 10000]) for _ in names]
         row[i] = 0
         out.append("row " + " ".join(map(str, row)))
-    if dice.random() < 0.3:
-        strange = ["# a comment", "", "  ", " # no comment", "row 0", "class 4 1"]
-        out.insert(dice.randint(0, len(out)), dice.choice(strange))
+    if strange or dice.random() < 0.2:
+        lines = [" # no comment", "row 0", "class 4 1", "class 4 fen", "unit 1 1"] if strange else ["# a comment", "", "  "]
+        out.insert(dice.randint(0, len(out)), dice.choice(lines))
     return spelled(dice, out)
 
 
@@ -179,17 +183,17 @@ def is_drawn(asked, map_text, certificate, out):
     return is_drawn_by_edges(asked, map_text, region_of, drawn)
 
 
-def random_run(dice, form, changing=True):
-    """What is asked, a map and a table; some are changed where that is wanted."""
+def random_run(dice, form, changing):
+    """What is asked, a map and a table. Where that is wanted a value, a line or some bytes of one of the texts are changed."""
+    way = dice.choice(["values", "values", "bytes", "table line", "table bytes"]) if changing else None
     if form == "grid":
-        asked, map_text, share = Asked("grid", "class", None), random_grid(dice), 0.2
+        asked, map_text = Asked("grid", "class", None), random_grid(dice, way == "values")
     else:
-        map_text, asked = random_map(dice, form, changing)
-        share = 0.12
-    table_text = random_table(dice)
-    if changing and dice.random() < share:
+        map_text, asked = random_map(dice, form, way == "values")
+    table_text = random_table(dice, way == "table line")
+    if way == "bytes":
         map_text = changed(dice, map_text, GRID_BYTES if form == "grid" else JSON_BYTES)
-    if changing and dice.random() < (0.2 if form == "grid" else 0.07):
+    elif way == "table bytes":
         table_text = changed(dice, table_text, GRID_BYTES)
     return asked, map_text, table_text
 
@@ -228,36 +232,51 @@ def is_cheaper(got, due):
     return got[0] in (0, 3) and certificates.read(got[2]).cost < certificates.read(due[2]).cost
 
 
-def parsed(words):
-    """The program, the number of runs, the random numbers, the splits, and the formats."""
-    splits = 0
-    if len(words) > 4 and words[3] == "--splits":
-        splits = int(words[4])
-        del words[3:5]
-    forms = words[3:] or FORMS
-    if not set(forms) <= set(FORMS):
-        sys.exit(f"compare.py: a format is one of {', '.join(FORMS)}")
-    return words[0], int(words[1]), random.Random(int(words[2])), splits, forms
+def compared(program, folder, dice, run_of, splits):
+    """Runs the program on a map and a table: what it answered, what was due, and whether the two agree."""
+    asked, map_text, table_text = run_of
+    got = run(program, folder, dice, asked, splits, map_text, table_text)
+    due = answer(asked, map_text, table_text)
+    same = is_due(asked, map_text, table_text, got, due, splits)
+    return got, due, same and is_drawn(asked, map_text, got[2], got[3]) and is_valid(asked, map_text, table_text, got)
+
+
+def count_run(tally, form, changing, got, due):
+    """Counts a run that agreed."""
+    words = got[1].decode().split() if got[0] == 65 else []
+    tally.count("kind " + " ".join([form, str(got[0])] + [word for word in words if word.strip("-0123456789")]))
+    tally.count("form " + form)
+    tally.count("changed", changing)
+    tally.count("cheaper", is_cheaper(got, due))
+
+
+def summary(tally, total):
+    """The line that sums up."""
+    kinds = [kind.split(" ", 2) for kind in tally.lines("kind ")]
+    sums = {code: sum(int(count) for count, _, rest in kinds if rest.startswith(code)) for code in ("0", "3", "4", "65")}
+    faults = {rest for _, _, rest in kinds if rest.startswith("65")}
+    forms = ", ".join(" ".join(reversed(line.split())) for line in tally.lines("form "))
+    told = f"{tally.head(total)} ({forms}), {tally.counts['changed']} of them changed at random places: {sums['0']} optimal, "
+    told += f"{sums['3']} within, {sums['4']} none, {sums['65']} refused by {len(faults)} kinds of line; "
+    return told + f"{tally.counts['cheaper']} cheaper than one region for each part"
 
 
 def main():
-    program, runs, dice, splits, forms = parsed(sys.argv[1:])
-    codes, cheaper = collections.Counter(), 0
+    words = sys.argv[1:]
+    splits, path, batch = (take_option(words, name) for name in ("--splits", "--keep", "--batch"))
+    program, total, seed, forms = words[0], int(words[1]), words[2], words[3:] or FORMS
+    if not set(forms) <= set(FORMS):
+        sys.exit(f"compare.py: a format is one of {', '.join(FORMS)}")
+    tally = Tally(program, [seed, splits or "0"] + forms, path)
     with tempfile.TemporaryDirectory() as folder:
-        for at in range(runs):
-            asked, map_text, table_text = random_run(dice, forms[at % len(forms)])
-            got = run(program, folder, dice, asked, splits, map_text, table_text)
-            due = answer(asked, map_text, table_text)
-            same = is_due(asked, map_text, table_text, got, due, splits)
-            if not (same and is_drawn(asked, map_text, got[2], got[3]) and is_valid(asked, map_text, table_text, got)):
-                print(f"{asked}\nmap {map_text!r}\ntable {table_text!r}\nprogram {got!r}\nreference {due!r}")
-                sys.exit(1)
-            cheaper += is_cheaper(got, due)
-            words = got[1].decode().split() if got[0] == 65 else []
-            codes[asked.form, got[0], " ".join(word for word in words if word.strip("-0123456789"))] += 1
-    for (form, code, line), count in sorted(codes.items()):
-        print(count, form, code, line)
-    print(cheaper, "cheaper than one region for each part")
+        for at, dice in tally.runs(total, None if batch is None else int(batch), seed):
+            form, changing = forms[at % len(forms)], at // len(forms) % 3 == 0
+            run_of = random_run(dice, form, changing)
+            got, due, same = compared(program, folder, dice, run_of, dice.randint(0, int(splits or 0)))
+            if not same:
+                sys.exit(f"run {at}\n{run_of[0]}\nmap {run_of[1]!r}\ntable {run_of[2]!r}\nprogram {got!r}\nreference {due!r}")
+            count_run(tally, form, changing, got, due)
+    print("\n".join(tally.lines("kind ") + [summary(tally, total)]))
 
 
 if __name__ == "__main__":

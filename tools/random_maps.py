@@ -1,9 +1,9 @@
-"""Random maps of polygons to compare with: `random_map(dice, form)` gives a text and what is asked of it. It takes no part in any proof.
+"""Random maps of polygons to compare with: `random_map(dice, form, changing)` gives a text and what is asked of it.
 
 A map begins as a small lattice of squares, some cut by a diagonal, whose pieces are dealt to areas; so areas may have holes and several
 parts, touch themselves at points, and share borders. The lattice is slanted and shifted, its borders are cut into arcs, and the arcs are
 walked to closed rings in a random order. Now and then an area is laid over others, or a point is moved. All is then spelled as a topology
-with shared arcs or as features with rings, in many ways that mean the same, and in a few that are refused.
+with shared arcs or as features with rings, in many ways that mean the same, and in a few that are refused. It takes no part in any proof.
 """
 import collections
 import copy
@@ -330,17 +330,17 @@ def features_tree(dice, drawn, class_name):
 
 
 def changed_tree(dice, tree):
-    """Changes the tree at a random place."""
+    """Changes the tree at a random place, mostly one that lies deep in it."""
     while True:
         items = tree.pairs if isinstance(tree, Members) else tree
-        if not items:
-            return
-        place = dice.randrange(len(items))
-        below = items[place][1] if isinstance(tree, Members) else items[place]
-        if not isinstance(below, (list, Members)) or dice.random() < 0.12:
+        below = [item[1] for item in items] if isinstance(tree, Members) else items
+        deeper = [place for place, item in enumerate(below) if isinstance(item, (list, Members))]
+        if not deeper or dice.random() < 0.15:
             break
-        tree = below
-    change_item(dice, items, place, below, isinstance(tree, Members))
+        tree = below[dice.choice(deeper)]
+    if items:
+        place = dice.randrange(len(items))
+        change_item(dice, items, place, below[place], isinstance(tree, Members))
 
 
 def change_item(dice, items, place, below, named):
@@ -400,15 +400,14 @@ def names_asked(dice, form):
     return class_name, object_name, Asked(form, asked_class, asked_object)
 
 
-def random_map(dice, form, changing=True):
-    """A random map of this format, and what is asked of it; some are changed where that is wanted."""
+def random_map(dice, form, changing):
+    """A random map of this format, and what is asked of it; one or two of its values are changed where that is wanted."""
     class_name, object_name, asked = names_asked(dice, form)
     drawn = drawn_map(dice)
     if form == "topojson":
         tree = topology_tree(dice, drawn, class_name, object_name)
     else:
         tree = features_tree(dice, drawn, class_name)
-    if changing and dice.random() < 0.18:
-        for _ in range(dice.randint(1, 2)):
-            changed_tree(dice, tree)
+    for _ in range(dice.randint(1, 2) if changing else 0):
+        changed_tree(dice, tree)
     return text_spelled(dice, tree), asked

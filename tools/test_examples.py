@@ -1,13 +1,15 @@
 #!/usr/bin/env python3
-"""Tests of the example in its three formats: test_examples.py
+"""Tests of the examples: test_examples.py
 
 The islands as a grid, as TopoJSON and as GeoJSON have the same areas, weights and links, and so the same cost and certificate; both maps of
-polygons are what polygons.py makes of the grid. It takes no part in any proof.
+polygons are what polygons.py makes of the grid. The worked certificate of three cells is valid, and changed ones are not. It takes no part in
+any proof.
 """
 import os
 import random
 import unittest
 
+import judge
 import polygons
 import reference
 from command_words import Asked
@@ -50,6 +52,18 @@ class Islands(unittest.TestCase):
                 if place:
                     self.assertNotIn((before, (x, y)), steps)
                     steps |= {(before, (x, y)), ((x, y), before)}
+
+
+class Three(unittest.TestCase):
+    def said(self, certificate):
+        texts = [example(f"three.{name}") for name in ("asc", "classes")]
+        return judge.answer(Asked("grid", "class", None), *texts, certificate, lambda: example("three.json"))
+
+    def test_worked_certificate(self):
+        certificate = example("three.cert")
+        self.assertEqual(self.said(certificate), (0, b"valid optimal 10 10\n"))
+        self.assertEqual(self.said(certificate.replace(b"e 5 0 0 1 0", b"e 4 0 0 1 0")), (5, b"invalid Bound 9\n"))
+        self.assertEqual(self.said(certificate.replace(b"e 5 0 0 1 0", b"e 5 0 0 2 0 1")), (5, b"invalid Row 0 0\n"))
 
 
 class Grids(unittest.TestCase):

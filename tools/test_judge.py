@@ -13,6 +13,7 @@ import judge
 import random_sums
 import reference
 import row_sums
+from all_groupings import partitions
 from certificates import CertificateFault
 from command_words import Asked
 from random_certificates import random_tree
@@ -168,18 +169,6 @@ class Texts(unittest.TestCase):
             self.assertEqual(fault_of(changed(b"c 1 2", b"s 0 0\nf\ns 0 0\nf\nc 1 2")), "Limit 13")
         finally:
             certificates.MOST_MARKS, certificates.MOST_SPLITS = kept
-
-
-def partitions(count):
-    """The region of each area, in every way that numbers regions by their least areas."""
-    def grown(regions):
-        if len(regions) == count:
-            yield regions
-        else:
-            for region in range(max(regions, default=-1) + 2):
-                yield from grown(regions + [region])
-
-    return grown([])
 
 
 def groupings(model):

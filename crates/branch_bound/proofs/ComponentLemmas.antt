@@ -1,25 +1,23 @@
 -- Components of areas of one class are a feasible grouping, where they lack nothing.
-use Rattle.std.proofs.Common.{◌≡◌, ◌≢◌, ℕ, zero, suc, ◌<◌, ◌≤◌, Bool, true, false, List, length, refl, sym, ◌∙◌, ap, subst, arith, inl, inr, ◌⊎◌}
+use Rattle.std.proofs.Common.{◌≡◌, ℕ, zero, suc, ◌<◌, ◌≤◌, Bool, true, false, List, length, refl, sym, ◌∙◌, ap, subst, arith, inl, inr, ◌⊎◌}
 use Rattle.std.specs.Prelude.{slice_index, ℤ, pos, ◌+ℤ◌, ◌*ℤ◌, ◌≤ℤ◌, int_lt, not, ◌==◌, ◌&&◌, ◌||◌, if◌then◌else◌}
 use Rattle.std.proofs.lemmas.Int.{ints}
 use Rattle.std.proofs.lemmas.Bool.{cases_order, cases_lt}
 use Rattle.std.proofs.lemmas.Bool.Decides.{Decides-eqb, eqb_tells}
-use Rattle.whole_ring.specs.Sums.{sum_below, when}
+use Rattle.whole_ring.specs.Sums.{when}
 use Rattle.whole_ring.proofs.Sums.{sum_below-same}
 use Rattle.agg_model.specs.Problem.{Problem, Grouping, IsProblem, IsRegion, IsFeasible, AreLinked, Walk, areas, own_of, weight_of, threshold_of, low_of, high_of, length_of, recolouring, region, class_in, class_at, is_between_regions, region_weight, cost}
 use Rattle.agg_model.specs.Tops.{AreHeads}
 use Rattle.greedy_start.specs.Starts.{IsLeastOf, IsNumberedByLeast}
 use Rattle.row_laws.specs.Fixed.{Kinds, is_same_kind, component, is_owned_below, component_weight, is_lacking, has_lack_below, fixed_cost, fixed_value, kind_in}
-use Rattle.row_laws.specs.declared.bound.Bound.{Bound}
 use Rattle.row_laws.specs.declared.bound.Bound.TheVariants.{Least, Void}
-use Rattle.row_laws.proofs.Tests.{by_test, clash, not_false}
+use Rattle.row_laws.proofs.Tests.{clash, not_false}
 use Rattle.row_laws.proofs.ComponentLemmas.{one_label}
 use Rattle.fixed_value.specs.Components.{AreComponents}
 use Rattle.fixed_value.proofs.LabelLemmas.{component_kind}
 use Rattle.bound_rows.specs.Domains.{allows, IsFor}
 use Rattle.bound_rows.proofs.KindLemmas.{kinds_are}
-use Rattle.branch_bound.specs.Components.{by_kind, AreRegions}
-use Rattle.branch_bound.specs.Outcomes.{IsFound}
+use Rattle.branch_bound.specs.Components.{by_kind, AreRegions, IsPriced}
 
 -- ---- tests
 
@@ -216,8 +214,8 @@ value_parts : (p : Problem) (kind : Kinds) (c : ℤ) → fixed_value p kind ≡ 
 unfolding fixed_value
 value_parts p kind c h = picked (has_lack_below p kind (areas p)) (fixed_cost p kind) c h
 
-pub components_found : (p : Problem) (kinds heads : List ℕ) (g : Grouping) (c : ℤ) → IsDone p kinds heads g → fixed_value p (λ v. slice_index kinds v) ≡ Least c → IsFound p g c
-components_found p kinds heads g c done worth =
+pub components_priced : (p : Problem) (kinds heads : List ℕ) (g : Grouping) (c : ℤ) → IsDone p kinds heads g → fixed_value p (λ v. slice_index kinds v) ≡ Least c → IsPriced p g c
+components_priced p kinds heads g c done worth =
     let parts = value_parts p (λ v. slice_index kinds v) c worth in
     record {
       feasible = components_feasible p kinds heads g done parts.0;
@@ -226,14 +224,14 @@ components_found p kinds heads g c done worth =
     }
 
 -- the same, where the classes are those that single sets leave
-pub grouping_found : (p : Problem) (sets kinds heads first second tops : List ℕ) (g : Grouping) (c : ℤ) → IsProblem p → IsFor p sets → length kinds ≡ areas p → ((v : ℕ) → v < length kinds → slice_index kinds v < p.classes)
+pub grouping_priced : (p : Problem) (sets kinds heads first second tops : List ℕ) (g : Grouping) (c : ℤ) → IsProblem p → IsFor p sets → length kinds ≡ areas p → ((v : ℕ) → v < length kinds → slice_index kinds v < p.classes)
     → ((v : ℕ) → v < areas p → slice_index kinds v ≡ kind_in p (allows sets) v) → first ≡ kinds → second ≡ kinds → tops ≡ heads → AreComponents p (λ v. slice_index first v) heads → AreHeads p (by_kind first) heads
-    → AreRegions tops second (length tops) g → fixed_value p (kind_in p (allows sets)) ≡ Least c → IsFound p g c
-grouping_found p sets kinds heads first second tops g c ok domains long below same one two three components walks regions worth =
+    → AreRegions tops second (length tops) g → fixed_value p (kind_in p (allows sets)) ≡ Least c → IsPriced p g c
+grouping_priced p sets kinds heads first second tops g c ok domains long below same one two three components walks regions worth =
     let here : AreComponents p (λ v. slice_index kinds v) heads = subst (λ (xs : List ℕ). AreComponents p (λ v. slice_index xs v) heads) one components in
     let at_heads : AreRegions heads second (length heads) g = subst (λ (xs : List ℕ). AreRegions xs second (length xs) g) three regions in
     let at_kinds : AreRegions heads kinds (length heads) g = subst (λ (xs : List ℕ). AreRegions heads xs (length heads) g) two at_heads in
-    components_found p kinds heads g c (record {
+    components_priced p kinds heads g c (record {
       rules = ok;
       below = λ v h. below v (omega arith);
       components = here;

@@ -9,13 +9,13 @@ use Rattle.agg_base.specs.declared.limits.TheConstants.{DEPTH}
 use Rattle.agg_model.specs.Problem.{Problem, IsProblem, areas}
 use Rattle.row_laws.specs.Values.{Allowed, RowSum}
 use Rattle.row_laws.specs.Fixed.{IsSingle, AreSingle}
-use Rattle.row_laws.specs.Leaves.{IsSoundLeaf, leaf_answer, IsRoot}
+use Rattle.row_laws.specs.Leaves.{IsSoundLeaf, leaf_answer}
 use Rattle.row_laws.specs.Trees.{only, without, HasOther, lesser_bound, lesser_of, bound_in, IsSoundTree, bound_of, split_count}
 use Rattle.row_laws.specs.declared.bound.Bound.{Bound}
 use Rattle.row_laws.specs.declared.bound.Bound.TheVariants.{Least, Void}
 use Rattle.row_laws.specs.declared.leaf.Leaf.{Leaf}
 use Rattle.row_laws.specs.declared.tree.Tree.{Tree, Leaf as LeafNode, Split'}
-use Rattle.row_laws.proofs.Tests.{by_test, clash, and_both}
+use Rattle.row_laws.proofs.Tests.{by_test, clash}
 use Rattle.bound_rows.specs.Offers.{IsAtMost}
 use Rattle.branch_bound.specs.Trees.{IsKept, IsDeep}
 use Rattle.branch_bound.specs.Outcomes.{IsWithin}

@@ -2,7 +2,6 @@
 use Rattle.std.proofs.Common.{◌≡◌, ℕ, ◌<◌, Bool, true, false, refl, ap, ◌∙◌, subst}
 use Rattle.row_laws.specs.Values.{Allowed}
 use Rattle.row_laws.specs.Trees.{only, without}
-use Rattle.branch_bound.specs.declared.tips.Tip.{Tip}
 use Rattle.branch_bound.specs.declared.tips.Rank.{Rank}
 use Rattle.branch_bound.specs.Tips.{is_before}
 use Rattle.branch_bound.specs.Shapes.{Shape, Forked, forked, is_second, first_tip, first_allowed, grown, AreSplits}

@@ -1,6 +1,6 @@
 -- What stays true of a tree while it grows, and what holds of its first tip.
-use Rattle.std.proofs.Common.{◌≡◌, ◌≢◌, ℕ, ◌+◌, ◌<◌, ◌≤◌, Bool, true, false, refl, sym, ◌∙◌, ap, subst, arith, Ok}
-use Rattle.std.specs.Prelude.{◌==◌, not, ◌&&◌, if◌then◌else◌, ◌≤ℤ◌}
+use Rattle.std.proofs.Common.{◌≡◌, ℕ, ◌+◌, ◌<◌, ◌≤◌, Bool, true, false, refl, sym, ◌∙◌, ap, subst, arith, Ok}
+use Rattle.std.specs.Prelude.{◌==◌, not, ◌&&◌}
 use Rattle.std.proofs.lemmas.Int.{ints}
 use Rattle.std.proofs.lemmas.Bool.Decides.{Decides-eqb}
 use Rattle.agg_model.specs.Problem.{Problem, Grouping, IsProblem, areas, class_at}
@@ -15,9 +15,9 @@ use Rattle.row_laws.proofs.LeafLemmas.{leaf_law}
 use Rattle.bound_rows.specs.Offers.{IsAtMost}
 use Rattle.branch_bound.specs.declared.tips.Tip.{Tip}
 use Rattle.branch_bound.specs.declared.tips.Rank.{Rank}
-use Rattle.branch_bound.specs.Tips.{is_before, first_rank, rank_of_tip}
-use Rattle.branch_bound.specs.Shapes.{Shape, Tipped, Forked, rank_of, forked, is_second, first_tip, first_allowed, grown, splits_in, AreSplits}
-use Rattle.branch_bound.specs.Trees.{IsFork, IsGrown}
+use Rattle.branch_bound.specs.Tips.{rank_of_tip}
+use Rattle.branch_bound.specs.Shapes.{Shape, Tipped, Forked, rank_of, is_second, first_tip, first_allowed, grown, splits_in, AreSplits}
+use Rattle.branch_bound.specs.Trees.{IsGrown}
 use Rattle.branch_bound.proofs.RankLemmas.{first_second, first_stays, first_bound, lesser_first, lesser_second}
 
 -- other rules that follow from these hold too
@@ -101,13 +101,13 @@ and_first : (a b : Bool) → a && b ≡ true → a ≡ true
 and_first true b h = refl
 and_first false b h = cc
 
-only_below : (p : Problem) (n : ℕ) (f : Allowed) (v k : ℕ) → v < areas p → f v k ≡ true → AreBelow p n f → AreBelow p n (only f v k)
+pub only_below : (p : Problem) (n : ℕ) (f : Allowed) (v k : ℕ) → v < areas p → f v k ≡ true → AreBelow p n f → AreBelow p n (only f v k)
 only_below p n f v k hv ok below u j hu =
     by_test (u == v) _
     (λ s. rw s (λ t. subst (λ (x : ℕ). x < n) (sym ((Decides-eqb j k).0 t)) (below v k hv ok)))
     (λ s. rw s (λ t. below u j hu t))
 
-without_below : (p : Problem) (n : ℕ) (f : Allowed) (v k : ℕ) → AreBelow p n f → AreBelow p n (without f v k)
+pub without_below : (p : Problem) (n : ℕ) (f : Allowed) (v k : ℕ) → AreBelow p n f → AreBelow p n (without f v k)
 without_below p n f v k below u j hu =
     by_test (u == v) _
     (λ s. rw s (λ t. below u j hu (and_first (f u j) (not (j == k)) t)))

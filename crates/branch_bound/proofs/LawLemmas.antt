@@ -1,5 +1,5 @@
 -- What leaves without rows prove, and the void leaf over a hopeless part.
-use Rattle.std.proofs.Common.{◌≡◌, ℕ, ◌<◌, true, ap, ◌∙◌, sym, arith, Result, Ok, Err, Some, List, refl}
+use Rattle.std.proofs.Common.{◌≡◌, ℕ, ◌<◌, true, ap, ◌∙◌, sym, arith, Result, Ok, Err, List}
 use Rattle.std.specs.Prelude.{nat_lt}
 use Rattle.std.proofs.lemmas.Bool.Decides.{nat_tests}
 use Rattle.agg_model.specs.Problem.{Problem, IsProblem, areas}

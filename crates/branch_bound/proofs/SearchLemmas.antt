@@ -1,36 +1,36 @@
 -- What a search keeps with each split, and what it knows at its end.
-use Rattle.std.proofs.Common.{◌≡◌, ℕ, ◌+◌, ◌<◌, ◌≤◌, Bool, true, false, refl, sym, ◌∙◌, ap, subst, arith, inl, inr, ◌⊎◌, Ok, Some, List}
+use Rattle.std.proofs.Common.{◌≡◌, ℕ, ◌+◌, ◌<◌, ◌≤◌, Bool, true, false, refl, sym, ◌∙◌, ap, subst, arith, inl, inr, ◌⊎◌, Result, Ok, Err, Some, List}
 use Rattle.std.specs.Prelude.{ℤ, ◌≤ℤ◌, ◌<ℤ◌, int_lt, not, ◌&&◌, ◌-◌, ◌*◌, ◌^◌, min}
 use Rattle.std.proofs.lemmas.Int.{ints}
 use Rattle.std.proofs.lemmas.Bool.Decides.{nat_tests}
 use Rattle.agg_base.specs.declared.limits.TheConstants.{DEPTH}
-use Rattle.agg_model.specs.Problem.{Problem, Grouping, IsProblem, IsFeasible, areas, cost}
+use Rattle.agg_model.specs.Problem.{Problem, Grouping, IsProblem, areas, cost}
 use Rattle.row_laws.specs.Values.{Allowed, RowSum}
 use Rattle.row_laws.specs.Bounds.{HoldsFor}
-use Rattle.row_laws.specs.Fixed.{AreSingle}
-use Rattle.row_laws.specs.FirstSums.{plain_sum}
+use Rattle.row_laws.specs.Fixed.{AreSingle, fixed_value, kind_in}
 use Rattle.row_laws.specs.Leaves.{leaf_answer, IsRoot}
 use Rattle.row_laws.specs.Trees.{only, without}
 use Rattle.row_laws.specs.declared.bound.Bound.{Bound}
 use Rattle.row_laws.specs.declared.bound.Bound.TheVariants.{Least, Void}
+use Rattle.row_laws.specs.declared.bound.Weak.{Weak}
 use Rattle.row_laws.specs.declared.leaf.Leaf.{Leaf}
 use Rattle.row_laws.specs.declared.leaf.Leaf.TheVariants.{Sum, Fixed}
 use Rattle.row_laws.specs.declared.tree.Tree.{Tree}
 use Rattle.row_laws.proofs.Tests.{clash}
 use Rattle.row_laws.proofs.LeafLemmas.{root_law}
 use Rattle.bound_rows.specs.Domains.{allows, IsFor}
-use Rattle.bound_rows.specs.Offers.{IsAtMost, IsWorth}
+use Rattle.bound_rows.specs.Offers.{IsAtMost}
 use Rattle.bound_rows.specs.Scratches.{IsScratchFor}
 use Rattle.branch_bound.specs.declared.tips.Tip.{Tip}
 use Rattle.branch_bound.specs.declared.tips.Rank.{Rank}
-use Rattle.branch_bound.specs.declared.search.Best.{Best}
 use Rattle.branch_bound.specs.declared.search.Search.{Search}
 use Rattle.branch_bound.specs.declared.outcome.Kind.{Kind}
 use Rattle.branch_bound.specs.declared.outcome.Kind.TheVariants.{Optimal, Within, NoGrouping}
-use Rattle.branch_bound.specs.Tips.{is_closed, is_below, is_open, rank_of_tip}
+use Rattle.branch_bound.specs.Tips.{is_closed, is_below, is_open}
+use Rattle.branch_bound.specs.Components.{IsPriced}
 use Rattle.branch_bound.specs.Growth.{shape_of}
 use Rattle.branch_bound.specs.Shapes.{Shape, Tipped, rank_of, forked, first_tip, first_allowed, grown, splits_in, AreSplits, IsTreeOf}
-use Rattle.branch_bound.specs.Trees.{IsFork, IsGrown, IsTaken, IsTipOver, IsNoCheaper, IsGoodTip, HoldsOfAll, IsSpent, node_count}
+use Rattle.branch_bound.specs.Trees.{IsFork, IsGrown, IsTipOver, IsNoCheaper, IsGoodTip, HoldsOfAll, IsSpent, node_count}
 use Rattle.branch_bound.specs.Enough.{HasEnough, IsClosed}
 use Rattle.branch_bound.specs.Outcomes.{IsFound, IsSearched, IsWithin, IsKind, IsKindBy, IsAskedFor}
 use Rattle.branch_bound.specs.Searches.{IsBest, IsSearch}
@@ -60,6 +60,25 @@ tip_fits p share fits offer f d t fit is =
 
 pub cheaper_still : (c e : ℤ) (t : Tip) → e ≤ℤ c → IsNoCheaper c t → IsNoCheaper e t
 cheaper_still c e t less is fixed = at_most_along (Least e) (Least c) t.bound less (is fixed)
+
+-- components that cost no more than the best grouping are as good as that
+pub found_cheaper : (p : Problem) (f : Allowed) (leaf : Leaf) (bound : Bound) (old new : Grouping) (c d : ℤ) → IsFound p old c → leaf ≡ Fixed → bound ≡ Least d → leaf_answer leaf p f ≡ Ok bound
+    → ((x : ℤ) → fixed_value p (kind_in p f) ≡ Least x → IsPriced p new x) → d ≤ℤ c → IsFound p new d
+found_cheaper p f leaf bound old new c d best is least worth price less =
+    let fixed : leaf_answer Fixed p f ≡ Ok (Least d) = subst (λ (l : Leaf). leaf_answer l p f ≡ Ok bound) is worth ∙ ap Ok least in
+    let new = price d (inner (leaf_answer Fixed p f) (fixed_value p (kind_in p f)) (Least d) refl fixed) in
+    let there = new.costs in
+    let here = best.costs in
+    record {
+      feasible = new.feasible;
+      numbered = new.numbered;
+      cheap = λ parts numbered one. (let most = best.cheap parts numbered one in omega (arith, ints));
+      costs = new.costs;
+    }
+  where
+    inner : (r : Result Bound Weak) (x y : Bound) → r ≡ Ok x → r ≡ Ok y → x ≡ y
+    inner (Ok z) x y h k = cc
+    inner (Err e) x y h k = cc
 
 pub no_dearer : (a b c : ℤ) → a ≤ℤ b → b ≤ℤ c → a ≤ℤ c
 no_dearer a b c h k = omega (arith, ints)

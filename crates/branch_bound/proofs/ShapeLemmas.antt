@@ -1,5 +1,5 @@
 -- What the tree proves that has grown.
-use Rattle.std.proofs.Common.{◌≡◌, ℕ, ◌+◌, ◌≤◌, Bool, true, false, refl, sym, ◌∙◌, ap, subst, arith, Ok, Some, Option, max, inl, inr}
+use Rattle.std.proofs.Common.{◌≡◌, ℕ, ◌+◌, ◌≤◌, true, refl, sym, ◌∙◌, ap, subst, arith, Ok, Some, Option}
 use Rattle.std.specs.Prelude.{ℤ, ◌≤ℤ◌, ◌<ℤ◌, ◌*◌}
 use Rattle.std.proofs.lemmas.Int.{ints}
 use Rattle.std.proofs.lemmas.Bool.Decides.{nat_tests}
@@ -14,13 +14,12 @@ use Rattle.row_laws.specs.declared.bound.Bound.TheVariants.{Least, Void}
 use Rattle.row_laws.specs.declared.leaf.Leaf.{Leaf}
 use Rattle.row_laws.specs.declared.leaf.Leaf.TheVariants.{Sum, Fixed}
 use Rattle.row_laws.specs.declared.tree.Tree.{Tree, Leaf as LeafNode, Split'}
-use Rattle.bound_rows.specs.Offers.{IsAtMost, IsWorth}
-use Rattle.branch_bound.specs.declared.tips.Tip.{Tip}
+use Rattle.bound_rows.specs.Offers.{IsAtMost}
 use Rattle.branch_bound.specs.declared.tips.Rank.{Rank}
-use Rattle.branch_bound.specs.Tips.{first_rank, rank_of_tip, is_closed}
+use Rattle.branch_bound.specs.Tips.{first_rank, is_closed}
 use Rattle.branch_bound.specs.Shapes.{Shape, Tipped, Forked, rank_of, splits_in, IsTreeOf}
-use Rattle.branch_bound.specs.Trees.{Fits, IsGrown, IsGoodTip, IsSpent, HoldsOfAll, IsKept, IsKeptLeaf, IsKeptSplit, IsOffered, IsDeep, node_count}
-use Rattle.branch_bound.proofs.RankLemmas.{ranked, first_bound, first_closed, lesser_first, lesser_second, at_most_both, at_most_along, at_most_same}
+use Rattle.branch_bound.specs.Trees.{IsGrown, IsGoodTip, IsSpent, IsKept, IsOffered, IsDeep, node_count}
+use Rattle.branch_bound.proofs.RankLemmas.{first_bound, first_closed, lesser_first, lesser_second, at_most_both, at_most_along}
 use Rattle.branch_bound.proofs.GrownLemmas.{IsWorthTip}
 
 -- what holds at one area and class holds at the same ones

@@ -1,6 +1,7 @@
 -- Regions that are components of areas of one class.
-use Rattle.std.specs.Prelude.{◌≡◌, ℕ, ◌<◌, ◌≤◌, List, [], length, slice_index}
-use Rattle.agg_model.specs.Problem.{Grouping, region, class_in}
+use Rattle.std.specs.Prelude.{◌≡◌, ℕ, ℤ, ◌<◌, ◌≤◌, List, [], length, slice_index}
+use Rattle.agg_model.specs.Problem.{Problem, Grouping, IsFeasible, region, class_in, cost}
+use Rattle.greedy_start.specs.Starts.{IsNumberedByLeast}
 
 -- areas of one class in one region
 abbrev pub by_kind : List ℕ → Grouping
@@ -16,3 +17,9 @@ pub record AreRegions (heads kinds : List ℕ) (n : ℕ) (g : Grouping) : Type 0
       → r < length g.class_of
       → (t : ℕ) × (t < n) × (slice_index heads t ≡ t) × (region g t ≡ r) × (class_in g r ≡ slice_index kinds t)
   pub rising : (u v : ℕ) → u < v → v < n → slice_index heads u ≡ u → slice_index heads v ≡ v → region g u < region g v
+
+-- a grouping is feasible and numbered by its least areas, and this is its cost
+pub record IsPriced (p : Problem) (g : Grouping) (c : ℤ) : Type 0 where
+  pub feasible : IsFeasible p g
+  pub numbered : IsNumberedByLeast p g
+  pub costs : c ≡ cost p g

@@ -2,7 +2,7 @@
 use Rattle.std.specs.Prelude.{◌≡◌, ℕ, ◌+◌, ◌-◌, ◌^◌, ◌≤◌, Bool, true, false, List, Some, ℤ, ◌≤ℤ◌, ◌<ℤ◌, min}
 use Rattle.agg_base.specs.declared.limits.TheConstants.{DEPTH}
 use Rattle.agg_model.specs.Problem.{Problem, Grouping, IsFeasible, cost}
-use Rattle.greedy_start.specs.Starts.{IsNumberedByLeast, IsFirstHopeless}
+use Rattle.greedy_start.specs.Starts.{IsNumberedByLeast, IsNoDearerThanParts, IsFirstHopeless}
 use Rattle.row_laws.specs.Values.{Allowed, RowSum}
 use Rattle.row_laws.specs.FirstSums.{IsPartOf, void_sum}
 use Rattle.row_laws.specs.Leaves.{IsSoundLeaf, leaf_answer, IsRoot}
@@ -26,10 +26,11 @@ pub record Proves (p : Problem) (tree : Tree Leaf) (b : Bound) : Type 0 where
   pub sound : IsSoundTree IsSoundLeaf leaf_answer p tree allowed
   pub bound : bound_of leaf_answer p tree allowed ≡ Some b
 
--- a grouping is feasible and numbered by its least areas, and this is its cost
+-- a grouping is feasible and numbered by its least areas, it costs no more than one region for each part, and this is its cost
 pub record IsFound (p : Problem) (g : Grouping) (c : ℤ) : Type 0 where
   pub feasible : IsFeasible p g
   pub numbered : IsNumberedByLeast p g
+  pub cheap : IsNoDearerThanParts p g
   pub costs : c ≡ cost p g
 
 -- the tree proves the bound, which holds of every feasible grouping; it is no greater than it may be, and its leaves and splits rest on offers

@@ -1,7 +1,7 @@
 // The search from its start to its answer.
 ghost use Rattle.std.specs.Prelude.{◌≡◌, ◌+◌, ◌/◌, ◌≤◌, IfOk};
 ghost use Rattle.agg_model.specs.Problem.{IsFeasible};
-ghost use Rattle.greedy_start.specs.Starts.{IsNumberedByLeast};
+ghost use Rattle.greedy_start.specs.Starts.{IsNumberedByLeast, IsNoDearerThanParts};
 ghost use Rattle.branch_bound.specs.Enough.{HasEnough, IsClosed};
 ghost use Rattle.branch_bound.specs.Outcomes.{IsSolved, IsAsked};
 
@@ -16,7 +16,8 @@ use greedy_start::{StartFault, start};
 use std::alloc::Global;
 
 /// Searches for the best grouping, with at most so many splits of the domains that allow every area every class. A tree of splits proves a
-/// bound that holds of every feasible grouping: the least value of its leaves.
+/// bound that holds of every feasible grouping: the least value of its leaves. The best grouping that was found costs no more than one region
+/// for each part.
 ///
 /// - `Optimal` where the bound is the cost of the best grouping that was found.
 /// - `Within` where it is below. Then the tree has exactly so many splits, or, with `deep`, each leaf of this bound stands at the greatest depth.
@@ -59,6 +60,7 @@ fn search<P: BoundProvider>(
 ) -> Result<Outcome, NoMemory>
     requires feasible { IsFeasible problem.now grouping }
     requires numbered { IsNumberedByLeast problem.now grouping }
+    requires cheap { IsNoDearerThanParts problem.now grouping }
     ensures solved { IfOk result (λ outcome. IsSolved problem.now (MARKS / (splits + 1)) (λ allowed sum. P.fits provider.old problem.now allowed (MARKS / (splits + 1)) sum) splits outcome) }
     ensures asked { IfOk result (λ outcome. IsAsked (P.asks provider.old) (P.asks provider.new) outcome) }
     ensures enough { HasEnough problem.now splits → IfOk result (λ outcome. IsClosed outcome.kind) }

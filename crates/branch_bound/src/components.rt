@@ -8,8 +8,7 @@ ghost use Rattle.row_laws.specs.Fixed.{AreSingle, is_same_kind, fixed_value, kin
 ghost use Rattle.row_laws.specs.declared.bound.Bound.TheVariants.{Least};
 ghost use Rattle.fixed_value.specs.Components.{AreComponents};
 ghost use Rattle.bound_rows.specs.Domains.{allows, IsFor};
-ghost use Rattle.branch_bound.specs.Components.{by_kind, AreRegions};
-ghost use Rattle.branch_bound.specs.Outcomes.{IsFound};
+ghost use Rattle.branch_bound.specs.Components.{by_kind, AreRegions, IsPriced};
 
 use crate::pairs::first_class;
 use agg_base::NoMemory;
@@ -27,7 +26,7 @@ pub(crate) fn component_grouping(
     requires domains { IsFor problem.now domains.now }
     requires rules { IsProblem problem.now }
     requires single { AreSingle problem.now (allows domains.now) (areas problem.now) }
-    ensures { IfOk result (λ g. (c : ℤ) → fixed_value problem.now (kind_in problem.now (allows domains.now)) ≡ Least c → IsFound problem.now g c) }
+    ensures { IfOk result (λ g. (c : ℤ) → fixed_value problem.now (kind_in problem.now (allows domains.now)) ≡ Least c → IsPriced problem.now g c) }
 {
     let kinds = kinds_of(alloc, problem, domains)?;
     let heads = component_heads(alloc, problem, &kinds)?;

@@ -7,14 +7,14 @@ use bound_rows::{Leaf, Tree};
 pub enum Kind {
     /// The bound is the cost, so no feasible grouping costs less.
     Optimal {
-        /// A feasible grouping, with regions numbered by their least areas.
+        /// A feasible grouping, with regions numbered by their least areas. It costs no more than one region for each part.
         best: Grouping,
         /// What it costs.
         cost: i128,
     },
     /// The bound is below the cost: no feasible grouping costs less than the bound.
     Within {
-        /// A feasible grouping, with regions numbered by their least areas.
+        /// A feasible grouping, with regions numbered by their least areas. It costs no more than one region for each part.
         best: Grouping,
         /// What it costs.
         cost: i128,

@@ -18,7 +18,7 @@ unchanged : (old new : ShelfState) → new ≡ old → OnlyFetches old new
 unchanged old new same = subst (λ n. n ≡ record old { fetch_faults = n.fetch_faults; missed = n.missed }) (sym same) refl
 
 pub files_planned : (old new : ShelfState) (r : Request) (map table : List ℕ) (result : Result Plan NoPlan)
-    → IsText old.files r.map MAP_BYTES map → IsText old.files r.table TABLE_BYTES table → new ≡ old → PlansTexts map table result
+    → IsText old.files r.map MAP_BYTES map → IsText old.files r.table TABLE_BYTES table → new ≡ old → PlansTexts r.format map table r.splits result
     → Decides old new r result
 files_planned old new r map table (Ok plan) m t same planned = (
   record {

@@ -5,10 +5,11 @@ use Rattle.agg_model.specs.Problem.{Problem, Grouping, IsFeasible}
 use Rattle.generalise_core.specs.Words.{Request, Spells}
 use Rattle.generalise_core.specs.Certificates.{Outcome}
 use Rattle.generalise_steps.specs.Refusals.{Refuses}
+use Rattle.generalise_steps.specs.declared.map_format.Format.{Format}
 use Rattle.generalise_steps.proofs.LoadLemmas.{one_load}
 use Rattle.generalise_steps.proofs.RefusalLemmas.{loaded_not_refused}
 use Rattle.generalise_core.specs.Answers.{AcceptsTexts}
-use Rattle.root_answer.specs.Answers.{States}
+use Rattle.search_answer.specs.Answers.{States}
 use Rattle.generalise_core.proofs.DraftLemmas.{one_request}
 use Rattle.generalise_core.specs.Stops.{line_of, status_of_stop}
 use Rattle.agg_base.specs.declared.limits.TheConstants.{MAP_BYTES, TABLE_BYTES}
@@ -38,8 +39,8 @@ not_too_long m name limit bytes text long =
 
 -- ---- accepted texts are refused by no line
 
-accepted_texts : (map table line : List ℕ) (p : Problem) → AcceptsTexts map table p → ¬ Refuses map table line
-accepted_texts map table line p a = loaded_not_refused map table line a.checked a.classes p a.loads
+accepted_texts : (format : Format) (map table line : List ℕ) (p : Problem) → AcceptsTexts format map table p → ¬ Refuses format map table line
+accepted_texts format map table line p a = loaded_not_refused format map table line a.checked a.classes p a.loads
 
 accepted_files : (m : Files) (r : Request) (line : List ℕ) (p : Problem) → AcceptsFiles (Some m) r p → ¬ RefusesFiles (Some m) r line
 accepted_files m r line p a (long_map long) = not_too_long m r.map MAP_BYTES a.map a.map_is long
@@ -47,7 +48,7 @@ accepted_files m r line p a (long_table map is long) = not_too_long m r.table TA
 accepted_files m r line p a (texts map table l is_map is_table refuses) =
     let e = one_text m r.map MAP_BYTES map a.map is_map a.map_is in
     let f = one_text m r.table TABLE_BYTES table a.table is_table a.table_is in
-    accepted_texts a.map a.table l p a.accepted (subst (λ t. Refuses a.map t l) f (subst (λ b. Refuses b table l) e refuses))
+    accepted_texts r.format a.map a.table l p a.accepted (subst (λ t. Refuses r.format a.map t l) f (subst (λ b. Refuses r.format b table l) e refuses))
 
 accepts_of : (files : Option Files) (r : Request) (s : Outcome) → (a : AnswersFiles files r s) → AcceptsFiles files r a.answers.problem
 accepts_of files r s a = record { map = a.map; table = a.table; map_is = a.map_is; table_is = a.table_is; accepted = record { checked = a.answers.checked; classes = a.answers.classes; loads = a.answers.loads } }
@@ -64,17 +65,17 @@ one_problem : (m : Files) (r : Request) (p q : Problem) → AcceptsFiles (Some m
 one_problem m r p q a b =
     let e : b.map ≡ a.map = one_text m r.map MAP_BYTES b.map a.map b.map_is a.map_is in
     let f : b.table ≡ a.table = one_text m r.table TABLE_BYTES b.table a.table b.table_is a.table_is in
-    let there : AcceptsTexts a.map a.table q = subst (λ x. AcceptsTexts x a.table q) e (subst (λ x. AcceptsTexts b.map x q) f b.accepted) in
-    (one_load a.map a.table a.accepted.checked there.checked a.accepted.classes there.classes p q a.accepted.loads there.loads).2
+    let there : AcceptsTexts r.format a.map a.table q = subst (λ x. AcceptsTexts r.format x a.table q) e (subst (λ x. AcceptsTexts r.format b.map x q) f b.accepted) in
+    (one_load r.format a.map a.table a.accepted.checked there.checked a.accepted.classes there.classes p q a.accepted.loads there.loads).2
 
 -- what is stated of the problem of told files
 stated_problem : (files : Option Files) (words : List (List ℕ)) (r : Request) (s : Outcome) (p : Problem)
-    → Spells words r → AnswersFiles files r s → AcceptsTold files words p → States p s.certificate
+    → Spells words r → AnswersFiles files r s → AcceptsTold files words p → States p r.splits s.certificate
 stated_problem files words r s p spelled answered problem =
     let same : problem.request ≡ r = one_request words problem.request r problem.spelled spelled in
     let here : AnswersFiles (Some problem.told) r s = subst (λ f. AnswersFiles f r s) problem.told_is answered in
     let one : here.answers.problem ≡ p = one_problem problem.told r here.answers.problem p (accepts_of (Some problem.told) r s here) (subst (λ q. AcceptsFiles (Some problem.told) q p) same problem.accepts) in
-    subst (λ q. States q s.certificate) one here.answers.answers.states
+    subst (λ q. States q r.splits s.certificate) one here.answers.answers.states
 
 -- where no grouping is feasible, that is what is stated
 pub stated_hopeless : (files : Option Files) (words : List (List ℕ)) (r : Request) (s : Outcome) (p : Problem)

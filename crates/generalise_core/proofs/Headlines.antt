@@ -1,5 +1,5 @@
 -- What a run that stores all has stated.
-use Rattle.std.proofs.Common.{◌≡◌, ◌≢◌, inl, inr, ℕ, ℤ, ◌≤ℤ◌, ◌<ℤ◌, List, ◌∷◌, Option, Some, None, refl, sym, ◌∙◌, ap, subst}
+use Rattle.std.proofs.Common.{◌≡◌, ◌≢◌, ◌⊎◌, inl, inr, ℕ, ℤ, ◌≤ℤ◌, ◌<ℤ◌, List, ◌∷◌, Option, Some, None, refl, sym, ◌∙◌, ap, subst}
 use Rattle.shelf_io.specs.State.{ShelfState}
 use Rattle.agg_model.specs.Problem.{Problem, Grouping, IsFeasible, cost}
 use Rattle.class_table.specs.Table.{Table}
@@ -7,10 +7,14 @@ use Rattle.coverage_check.specs.Checked.{Checked}
 use Rattle.coverage_check.specs.Kept.{odds_of}
 use Rattle.map_drawing.specs.Drawn.{IsDrawnMap}
 use Rattle.generalise_core.specs.Words.{Request, Spells}
-use Rattle.generalise_core.specs.Certificates.{Outcome}
 use Rattle.generalise_core.specs.Texts.{text_of}
-use Rattle.root_answer.specs.Answers.{States, StatesGrouping, IsStatusOf}
+use Rattle.search_answer.specs.Answers.{States, StatesGrouping, IsStatusOf}
+use Rattle.branch_bound.specs.Enough.{HasEnough}
+use Rattle.branch_bound.specs.Trees.{IsDeep}
+use Rattle.row_laws.specs.Trees.{split_count}
+use Rattle.row_laws.specs.declared.bound.Bound.TheVariants.{Least}
 use Rattle.generalise_core.specs.Answers.{AnswersProblem, IsDrawn}
+use Rattle.generalise_core.specs.Spent.{IsUsedUp}
 use Rattle.generalise_core.specs.States.{with_all}
 use Rattle.generalise_core.specs.Runs.{Answer, map_due, dues, PutsOut}
 use Rattle.generalise_core.specs.Plans.{PlansFiles}
@@ -25,7 +29,7 @@ use Rattle.generalise_core.proofs.RunLemmas.{due_is}
 
 -- an answer of that kind
 abbrev pub OfKind : CertStatus → Answer → Type 0
-OfKind kind a = (a.outcome.certificate.status ≡ kind) × AnswersProblem a.checked a.classes a.problem a.outcome
+OfKind kind a = (a.outcome.certificate.status ≡ kind) × AnswersProblem a.checked a.classes a.problem a.request.splits a.outcome
 
 -- where the run ends so, an answer of that kind is put out
 abbrev pub Stated : ShelfState → ShelfState → List (List ℕ) → Status → Type 0
@@ -92,17 +96,17 @@ not_stated old new words result never = λ kind e. absurd (never kind e)
 
 -- ---- word by word
 
-with_grouping : (p : Problem) (s : Certificate) (kind : CertStatus) → States p s → s.status ≡ kind → kind ≢ Hopeless → StatesGrouping p s
-with_grouping p s kind states e some = elim states.1 [
+with_grouping : (p : Problem) (n : ℕ) (s : Certificate) (kind : CertStatus) → States p n s → s.status ≡ kind → kind ≢ Hopeless → StatesGrouping p n s
+with_grouping p n s kind states e some = elim states.1 [
   | inl grouping ↦ grouping
   | inr none ↦ absurd (some (sym e ∙ none.status))
 ]
 
 abbrev pub OfGrouping : Answer → Type 0
-OfGrouping a = StatesGrouping a.problem a.outcome.certificate × AnswersProblem a.checked a.classes a.problem a.outcome
+OfGrouping a = StatesGrouping a.problem a.request.splits a.outcome.certificate × AnswersProblem a.checked a.classes a.problem a.request.splits a.outcome
 
 of_kind : (kind : CertStatus) → kind ≢ Hopeless → (a : Answer) → OfKind kind a → OfGrouping a
-of_kind kind some a is = (with_grouping a.problem a.outcome.certificate kind is.1.states is.0 some, is.1)
+of_kind kind some a is = (with_grouping a.problem a.request.splits a.outcome.certificate kind is.1.states is.0 some, is.1)
 
 of_grouping : (old new : ShelfState) (words : List (List ℕ)) (result : Status) → Stated old new words result → HasGrouping result → PutsOut old new words OfGrouping
 of_grouping old new words result all has = elim has [
@@ -127,7 +131,7 @@ pub optimal_of : (old new : ShelfState) (words : List (List ℕ)) (result : Stat
     → PutsOut old new words (λ a. a.outcome.certificate.bound ≡ a.outcome.certificate.cost)
 optimal_of old new words result all e =
     puts_weaker old new words (OfKind Optimal) _ (λ a is.
-    let g = with_grouping a.problem a.outcome.certificate Optimal is.1.states is.0 (λ x. (cc)) in
+    let g = with_grouping a.problem a.request.splits a.outcome.certificate Optimal is.1.states is.0 (λ x. (cc)) in
     let same : g.bound ≡ cost a.problem a.outcome.certificate.grouping = subst (IsStatusOf g.bound (cost a.problem a.outcome.certificate.grouping)) is.0 g.status in
     g.states_bound ∙ ap Some same ∙ sym g.states_cost) (all Optimal e)
 
@@ -135,8 +139,29 @@ pub within_of : (old new : ShelfState) (words : List (List ℕ)) (result : Statu
     → PutsOut old new words (λ a. (b c : ℤ) × (a.outcome.certificate.bound ≡ Some b) × (a.outcome.certificate.cost ≡ Some c) × (b <ℤ c))
 within_of old new words result all e =
     puts_weaker old new words (OfKind Within) _ (λ a is.
-    let g = with_grouping a.problem a.outcome.certificate Within is.1.states is.0 (λ x. (cc)) in
+    let g = with_grouping a.problem a.request.splits a.outcome.certificate Within is.1.states is.0 (λ x. (cc)) in
     (g.bound, cost a.problem a.outcome.certificate.grouping, g.states_bound, g.states_cost, subst (IsStatusOf g.bound (cost a.problem a.outcome.certificate.grouping)) is.0 g.status)) (all Within e)
+
+pub spent_of : (old new : ShelfState) (words : List (List ℕ)) (result : Status) → Stated old new words result → result ≡ status.Within
+    → PutsOut old new words (λ a. (b : ℤ) × (a.outcome.certificate.bound ≡ Some b) × IsUsedUp a.problem a.request.splits b a.outcome.certificate.tree)
+spent_of old new words result all e =
+    puts_weaker old new words (OfKind Within) _ (λ a is.
+    let g = with_grouping a.problem a.request.splits a.outcome.certificate Within is.1.states is.0 (λ x. (cc)) in
+    (g.bound, g.states_bound, used_up a g (g.spent is.0))) (all Within e)
+  where
+    used_up : (a : Answer) → (g : StatesGrouping a.problem a.request.splits a.outcome.certificate)
+        → (split_count a.outcome.certificate.tree ≡ a.request.splits) ⊎ IsDeep a.problem (Least g.bound) a.outcome.certificate.tree g.proves.allowed 0
+        → IsUsedUp a.problem a.request.splits g.bound a.outcome.certificate.tree
+    used_up a g (inl all) = inl all
+    used_up a g (inr deep) = inr (g.proves.allowed, g.proves.root, deep)
+
+pub enough_of : (old new : ShelfState) (words : List (List ℕ)) (result : Status) → Stated old new words result → result ≡ status.Within
+    → PutsOut old new words (λ a. ¬ HasEnough a.problem a.request.splits)
+enough_of old new words result all e =
+    puts_weaker old new words (OfKind Within) _ (λ a is enough.
+    let g = with_grouping a.problem a.request.splits a.outcome.certificate Within is.1.states is.0 (λ x. (cc)) in
+    let other : Within ≡ Optimal = sym is.0 ∙ g.enough enough in
+    (cc)) (all Within e)
 
 drawn_text : (c : Checked) (t : Table) (g : Grouping) (kind : CertStatus) (map : Option (List ℕ)) → kind ≢ Hopeless → IsDrawn c t g kind map
     → (text : List ℕ) × (map ≡ Some text) × IsDrawnMap (odds_of c.areas) g t.names c.frame text

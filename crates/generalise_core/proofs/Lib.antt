@@ -1,3 +1,4 @@
+pub mod FormLemmas
 pub mod DraftLemmas
 pub mod Endings
 pub mod StateLemmas

@@ -21,7 +21,7 @@ pub record IsText (files : Option Files) (name : List ℕ) (limit : ℕ) (bytes 
 pub data RefusesFiles (files : Option Files) (r : Request) : List ℕ → Type 0 where
   long_map : IsTooLong files r.map MAP_BYTES → RefusesFiles files r (codes "refused: map TooLong\n")
   long_table : (map : List ℕ) → IsText files r.map MAP_BYTES map → IsTooLong files r.table TABLE_BYTES → RefusesFiles files r (codes "refused: table TooLong\n")
-  texts : (map table line : List ℕ) → IsText files r.map MAP_BYTES map → IsText files r.table TABLE_BYTES table → Refuses map table line → RefusesFiles files r line
+  texts : (map table line : List ℕ) → IsText files r.map MAP_BYTES map → IsText files r.table TABLE_BYTES table → Refuses r.format map table line → RefusesFiles files r line
 
 -- the two files are accepted, and this is an answer to them
 pub record AnswersFiles (files : Option Files) (r : Request) (s : Outcome) : Type 0 where
@@ -29,7 +29,7 @@ pub record AnswersFiles (files : Option Files) (r : Request) (s : Outcome) : Typ
   pub table : List ℕ
   pub map_is : IsText files r.map MAP_BYTES map
   pub table_is : IsText files r.table TABLE_BYTES table
-  pub answers : AnswersTexts map table s
+  pub answers : AnswersTexts r.format map table r.splits s
 
 -- the two files are accepted, and this is their problem
 pub record AcceptsFiles (files : Option Files) (r : Request) (p : Problem) : Type 0 where
@@ -37,7 +37,7 @@ pub record AcceptsFiles (files : Option Files) (r : Request) (p : Problem) : Typ
   pub table : List ℕ
   pub map_is : IsText files r.map MAP_BYTES map
   pub table_is : IsText files r.table TABLE_BYTES table
-  pub accepted : AcceptsTexts map table p
+  pub accepted : AcceptsTexts r.format map table p
 
 -- told files hold a map and a table that are accepted, and this is their problem
 pub record AcceptsTold (files : Option Files) (words : List (List ℕ)) (p : Problem) : Type 0 where

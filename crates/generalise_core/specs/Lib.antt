@@ -3,6 +3,7 @@ pub mod Words
 pub mod Orders
 pub mod Certificates
 pub mod Answers
+pub mod Spent
 pub mod Stops
 pub mod Codes
 pub mod Puts

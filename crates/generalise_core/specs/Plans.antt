@@ -4,6 +4,7 @@ use Rattle.agg_base.specs.declared.limits.TheConstants.{MAP_BYTES, TABLE_BYTES}
 use Rattle.shelf_io.specs.Files.{Files}
 use Rattle.shelf_io.specs.State.{ShelfState}
 use Rattle.generalise_steps.specs.Refusals.{Refuses}
+use Rattle.generalise_steps.specs.declared.map_format.Format.{Format}
 use Rattle.cert_text.specs.CertTexts.{spelling}
 use Rattle.generalise_core.specs.Texts.{text_of}
 use Rattle.generalise_core.specs.Words.{Request}
@@ -25,16 +26,16 @@ pub record Writes (plan : Plan) (s : Outcome) : Type 0 where
   pub report_is : plan.report.items ≡ report s
   pub map_is : text_of plan.map ≡ s.map
 
--- a plan states an answer to the texts, and a refusal is that of the texts
-abbrev pub PlansTexts : List ℕ → List ℕ → Result Plan NoPlan → Type 0
-PlansTexts map table (Ok plan) = (s : Outcome) × AnswersTexts map table s × Writes plan s
-PlansTexts map table (Err (Stopped (stop.Refused line))) = Refuses map table line
-PlansTexts map table (Err (Stopped stop.Usage)) = ⊥
-PlansTexts map table (Err (Stopped stop.MapMissed)) = ⊥
-PlansTexts map table (Err (Stopped stop.TableMissed)) = ⊥
-PlansTexts map table (Err (Stopped stop.MapTooLong)) = ⊥
-PlansTexts map table (Err (Stopped stop.TableTooLong)) = ⊥
-PlansTexts map table (Err Memory) = ⊤
+-- a plan states an answer to the texts with so many splits at most, and a refusal is that of the texts
+abbrev pub PlansTexts : Format → List ℕ → List ℕ → ℕ → Result Plan NoPlan → Type 0
+PlansTexts format map table n (Ok plan) = (s : Outcome) × AnswersTexts format map table n s × Writes plan s
+PlansTexts format map table n (Err (Stopped (stop.Refused line))) = Refuses format map table line
+PlansTexts format map table n (Err (Stopped stop.Usage)) = ⊥
+PlansTexts format map table n (Err (Stopped stop.MapMissed)) = ⊥
+PlansTexts format map table n (Err (Stopped stop.TableMissed)) = ⊥
+PlansTexts format map table n (Err (Stopped stop.MapTooLong)) = ⊥
+PlansTexts format map table n (Err (Stopped stop.TableTooLong)) = ⊥
+PlansTexts format map table n (Err Memory) = ⊤
 
 -- the plan states an answer to the files
 pub record PlansFiles (files : Option Files) (r : Request) (plan : Plan) : Type 0 where
@@ -50,7 +51,7 @@ StopsFiles old new r stop.TableMissed = MissesTable old new r
 StopsFiles old new r stop.MapTooLong = IsTooLong old.files r.map MAP_BYTES × (new ≡ old)
 StopsFiles old new r stop.TableTooLong = (map : List ℕ) × IsText old.files r.map MAP_BYTES map × IsTooLong old.files r.table TABLE_BYTES × (new ≡ old)
 StopsFiles old new r (stop.Refused line) =
-    (map table : List ℕ) × IsText old.files r.map MAP_BYTES map × IsText old.files r.table TABLE_BYTES table × Refuses map table line × (new ≡ old)
+    (map table : List ℕ) × IsText old.files r.map MAP_BYTES map × IsText old.files r.table TABLE_BYTES table × Refuses r.format map table line × (new ≡ old)
 
 -- what is decided of the files, and that the shelf is as it was unless a file was missed
 abbrev pub Decides : ShelfState → ShelfState → Request → Result Plan NoPlan → Type 0

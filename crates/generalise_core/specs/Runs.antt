@@ -43,7 +43,7 @@ pub record IsAnswerTo (files : Option Files) (words : List (List ℕ)) (a : Answ
   pub spelled : Spells words a.request
   pub map_is : IsText files a.request.map MAP_BYTES a.map
   pub table_is : IsText files a.request.table TABLE_BYTES a.table
-  pub loads : Loads a.map a.table a.checked a.classes a.problem
+  pub loads : Loads a.request.format a.map a.table a.checked a.classes a.problem
 
 -- The certificate and the map that state its outcome are stored and the report is said. Nothing else has changed.
 abbrev pub IsPutOut : ShelfState → ShelfState → Answer → Type 0

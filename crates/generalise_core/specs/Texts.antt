@@ -7,6 +7,10 @@ use Rattle.std.specs.Borrow.{Bor}
 abbrev pub texts : List (Bor (List ℕ)) → List (List ℕ)
 texts = map (λ x. x.now)
 
+-- the text that is lent, where one is
+abbrev pub lent : Option (Bor (List ℕ)) → Option (List ℕ)
+lent = option_map (λ x. x.now)
+
 -- the bytes, where there are any
 abbrev pub text_of : Option (Vec ℕ Global) → Option (List ℕ)
 text_of = option_map (λ text. text.items)

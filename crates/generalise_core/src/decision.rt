@@ -1,9 +1,10 @@
 // From the names of the files to what is put out.
+ghost use Rattle.std.specs.Prelude.{◌≤◌};
 ghost use Rattle.generalise_core.specs.Orders.{request};
 ghost use Rattle.generalise_core.specs.Plans.{Decides};
 
 use crate::{NoPlan, Order, Plan, Stop, make_plan};
-use agg_base::limits::{MAP_BYTES, TABLE_BYTES};
+use agg_base::limits::{MAP_BYTES, SPLITS, TABLE_BYTES};
 use crew_work::Crew;
 use shelf_io::{Fetch, Shelf};
 use std::alloc::Global;
@@ -18,6 +19,7 @@ pub(crate) fn decide<S: Shelf, W: Crew>(
     order: &Order,
     crew: &W,
 ) -> Result<Plan, NoPlan>
+    requires { order.now.splits ≤ SPLITS }
     ensures { Decides (S.state shelf.old) (S.state shelf.new) (request order.now) result }
 {
     let map = match shelf.fetch(alloc, order.map, MAP_BYTES) {
@@ -32,5 +34,5 @@ pub(crate) fn decide<S: Shelf, W: Crew>(
         Err(Fetch::TooLong) => return Err(NoPlan::Stopped(Stop::TableTooLong)),
         Err(Fetch::Memory) => return Err(NoPlan::Memory),
     };
-    make_plan(alloc, map, table, crew)
+    make_plan(alloc, &order.format, map, table, order.splits, crew)
 }

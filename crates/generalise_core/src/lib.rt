@@ -3,8 +3,11 @@
 
 mod decision;
 mod draft;
+mod formats;
+mod most_splits;
 mod plan;
 mod report;
+mod setting;
 mod status;
 mod stop;
 mod text;
@@ -16,7 +19,11 @@ use plan::{NoPlan, Plan, make_plan};
 pub use status::Status;
 use stop::Stop;
 pub use top::run;
-use words::{Order, read_words};
+use words::{Names, Order, read_words};
 
+#[cfg(test)]
+mod map_tests;
+#[cfg(test)]
+mod row_tests;
 #[cfg(test)]
 mod tests;

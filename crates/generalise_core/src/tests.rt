@@ -9,7 +9,7 @@ use std::test::Fail;
 
 const FORM: [&str; 8] = ["generalise", "grid", "m", "t", "o", "c", "--splits", "0"];
 
-const MAP: &[u8] = b"ncols 3\nnrows 1\nxllcorner 0\nyllcorner 0\ncellsize 1\n1 2 1\n";
+pub(crate) const MAP: &[u8] = b"ncols 3\nnrows 1\nxllcorner 0\nyllcorner 0\ncellsize 1\n1 2 1\n";
 
 const TABLE: &[u8] = b"classes 1\nunit 1 1\nborder 1\nclass 4 1\nclass 4 2\nrow 0 5\nrow 5 0\n";
 
@@ -38,11 +38,11 @@ const DRAWN: &[u8] =
 
 // What a run ends with, says, and leaves in the files of the certificate and of the map.
 #[derive(Drop)]
-struct Ending {
-    code: u8,
-    said: Vec<u8>,
-    certificate: Option<Vec<u8>>,
-    map: Option<Vec<u8>>,
+pub(crate) struct Ending {
+    pub code: u8,
+    pub said: Vec<u8>,
+    pub certificate: Option<Vec<u8>>,
+    pub map: Option<Vec<u8>>,
 }
 
 // A file's bytes, where it is there.
@@ -53,7 +53,7 @@ fn bytes_in(alloc: Global, shelf: &MemShelf, name: &str) -> Result<Option<Vec<u8
     }
 }
 
-fn ending_of(
+pub(crate) fn ending_of(
     rt: &impl Abort,
     alloc: Global,
     words: &[&str],
@@ -73,7 +73,7 @@ fn ending_of(
     })
 }
 
-fn bytes_of(bytes: &Option<Vec<u8>>) -> &[u8] {
+pub(crate) fn bytes_of(bytes: &Option<Vec<u8>>) -> &[u8] {
     match bytes {
         Some(bytes) => bytes,
         None => b"(no file)",
@@ -140,7 +140,7 @@ fn too_high_thresholds_are_hopeless(rt: HostRuntime) -> Result<(), Fail> {
 }
 
 // Whether a run ends so, says just that and stores nothing.
-fn is_stopped(
+pub(crate) fn is_stopped(
     rt: &impl Abort,
     alloc: Global,
     words: &[&str],
@@ -264,6 +264,10 @@ fn cells_that_touch_at_a_corner_are_not_linked(rt: HostRuntime) -> Result<(), Fa
     let end = ending_of(&rt, rt.alloc(), &FORM, map, light, &[])?;
     assert_eq!(rt; end.code, 0);
     assert_eq!(rt;
+        end.said.as_slice(),
+        b"optimal\nareas 2\npassed 0\nregions 2\ncost 0\nbound 0\nsplits 0\n".as_slice()
+    );
+    assert_eq!(rt;
         bytes_of(&end.certificate),
         b"aggregation 1\nstatus optimal\ncost 0\nbound 0\nareas 2\nregions 2\nr 0\nr 0\na 0\na 1\nc 1 0\nend\n".as_slice()
     );
@@ -340,13 +344,49 @@ fn other_words_are_usage(rt: HostRuntime) -> Result<(), Fail> {
     let alloc = rt.alloc();
     for words in [
         &[][..],
-        &["generalise", "grid", "m", "t", "o", "c"][..],
         &["generalise", "grid", "m", "t", "o", "c", "--splits"][..],
-        &["generalise", "grid", "m", "t", "o", "c", "--splits=0"][..],
-        &["generalise", "grid", "m", "t", "o", "o", "--splits", "0"][..],
+        &["generalise", "grid", "m", "t", "o", "c", "--splits=5"][..],
+        &["generalise", "grid", "m", "t", "o", "o"][..],
         &["generalise", "grid", "m", "t", "", "c", "--splits", "0"][..],
         &["generalise", "grid", "m", "t", "-o", "c", "--splits", "0"][..],
-        &["check", "grid", "m", "t", "o", "c", "--splits", "0"][..],
+        &["check", "grid", "m", "t", "o", "c", "--splits", "5"][..],
+        &[
+            "generalise",
+            "grid",
+            "m",
+            "t",
+            "o",
+            "c",
+            "--splits",
+            "0",
+            "--class",
+            "k",
+        ][..],
+        &[
+            "generalise",
+            "geojson",
+            "m",
+            "t",
+            "o",
+            "c",
+            "--splits",
+            "0",
+            "--object",
+            "k",
+        ][..],
+        &[
+            "generalise",
+            "geojson",
+            "m",
+            "t",
+            "o",
+            "c",
+            "--splits",
+            "0",
+            "--class",
+            "-k",
+        ][..],
+        &["generalise", "shape", "m", "t", "o", "c"][..],
     ] {
         assert!(rt; is_usage(&rt, alloc, words)?, "for {words:?}");
     }
@@ -362,9 +402,32 @@ fn other_words_fetch_nothing(rt: HostRuntime) -> Result<(), Fail> {
     Ok(())
 }
 
+// How a run on the first row's map with these splits ends.
+fn code_with(rt: &impl Abort, alloc: Global, splits: &str) -> Result<u8, NoMemory> {
+    let words = ["generalise", "grid", "m", "--splits", splits, "t", "o", "c"];
+    Ok(ending_of(rt, alloc, &words, MAP, TABLE, &[])?.code)
+}
+
+#[test]
+fn splits_have_one_to_seven_digits(rt: HostRuntime) -> Result<(), Fail> {
+    let alloc = rt.alloc();
+    for splits in ["0", "0000000", "7", "1000000"] {
+        assert_eq!(rt; code_with(&rt, alloc, splits)?, 0);
+    }
+    Ok(())
+}
+
+#[test]
+fn other_splits_are_usage(rt: HostRuntime) -> Result<(), Fail> {
+    let alloc = rt.alloc();
+    for splits in ["1000001", "9999999", "00000000", "+5", "5.0", "5 "] {
+        assert_eq!(rt; code_with(&rt, alloc, splits)?, 64);
+    }
+    Ok(())
+}
+
 #[test]
 fn an_option_stands_once(rt: HostRuntime) -> Result<(), Fail> {
-    let alloc = rt.alloc();
     let twice = &[
         "generalise",
         "--splits",
@@ -377,29 +440,7 @@ fn an_option_stands_once(rt: HostRuntime) -> Result<(), Fail> {
         "--splits",
         "0",
     ];
-    assert!(rt; is_usage(&rt, alloc, twice)?);
-    let long = &[
-        "generalise",
-        "grid",
-        "m",
-        "t",
-        "o",
-        "c",
-        "--splits",
-        "00000000",
-    ];
-    assert!(rt; is_usage(&rt, alloc, long)?);
-    let among = &[
-        "generalise",
-        "grid",
-        "m",
-        "--splits",
-        "0000000",
-        "t",
-        "o",
-        "c",
-    ];
-    assert_eq!(rt; ending_of(&rt, alloc, among, MAP, TABLE, &[])?.code, 0);
+    assert!(rt; is_usage(&rt, rt.alloc(), twice)?);
     Ok(())
 }
 

@@ -1,5 +1,5 @@
 // The top call.
-ghost use Rattle.std.specs.Prelude.{◌≡◌, ◌≢◌, ◌⊎◌, [], ◌∷◌, ℕ, ℤ, ◌≤ℤ◌, ◌<ℤ◌, List, Option, Some, OnOk, OnErr, IfErr, IsErrOf};
+ghost use Rattle.std.specs.Prelude.{◌≡◌, ◌≢◌, ◌⊎◌, [], ◌∷◌, ℕ, ℤ, ◌≤◌, ◌≤ℤ◌, ◌<ℤ◌, List, Option, Some, OnOk, OnErr, IfErr, IsErrOf};
 ghost use Rattle.shelf_io.specs.Files.{with_file, with_said, IsPartlyStored, IsPartlySpoken};
 ghost use Rattle.shelf_io.specs.Causes.{HasRisen};
 ghost use Rattle.agg_model.specs.Problem.{Grouping, IsFeasible, Problem, cost};
@@ -10,7 +10,9 @@ ghost use Rattle.generalise_core.specs.Orders.{request};
 ghost use Rattle.generalise_core.specs.Texts.{text_of};
 ghost use Rattle.generalise_core.specs.PlanDues.{due_of};
 ghost use Rattle.cert_text.specs.declared.certificate.CertStatus.{CertStatus};
+ghost use Rattle.branch_bound.specs.Enough.{HasEnough};
 ghost use Rattle.generalise_core.specs.Answers.{AnswersProblem};
+ghost use Rattle.generalise_core.specs.Spent.{IsUsedUp};
 ghost use Rattle.generalise_core.specs.Codes.{status_of, HasGrouping, MayEndAs, MayFailAs};
 ghost use Rattle.generalise_core.specs.Stops.{line_of, status_of_stop, usage_line};
 ghost use Rattle.generalise_core.specs.Puts.{all_stored, IsPartlyPut};
@@ -20,6 +22,7 @@ ghost use Rattle.generalise_core.specs.Runs.{map_due, PutsOut, SaysRefusal, Says
 
 use crate::{NoPlan, Order, Plan, Status, Stop, decide, read_words};
 use agg_base::Words;
+use agg_base::limits::SPLITS;
 use crew_work::Crew;
 use shelf_io::{Put, Shelf};
 use std::alloc::Global;
@@ -76,7 +79,6 @@ fn say_report<S: Shelf>(shelf: &mut S, plan: &Plan) -> Status
 }
 
 // Makes the file of the map hold it, where there is one, and ends the run where that fails.
-
 fn put_map<S: Shelf>(shelf: &mut S, name: &str, map: &Option<Vec<u8>>) -> Result<(), Status>
     ensures whole { OnOk result (S.state shelf.new ≡ record (S.state shelf.old) { files = all_stored (S.state shelf.old).files (map_due name.now (text_of map.now)) }) }
     ensures partly { OnErr result (IsPartlyPut (S.state shelf.old).files (S.state shelf.new).files (map_due name.now (text_of map.now))) }
@@ -123,16 +125,60 @@ fn carry_out<S: Shelf>(shelf: &mut S, order: &Order, plan: &Plan) -> Status
     say_report(shelf, plan)
 }
 
+/// Generalises the map of an order: fetches the two files, stores the certificate and the written map, and says the report.
+///
+/// The steps and the answers are those of `run`, for all words that spell this request.
+pub(crate) fn generalise<S: Shelf, W: Crew>(
+    alloc: Global,
+    order: &Order,
+    shelf: &mut S,
+    crew: &W,
+) -> Status
+    requires { order.now.splits ≤ SPLITS }
+
+    // Done, Within and Hopeless: what is due is stored and the report is said, and these state an answer. Each told pair of files that is
+    // accepted gets one.
+    ensures stated { (words : List (List ℕ)) → Spells words (request order.now) → (status : CertStatus) → result ≡ status_of status → PutsOut (S.state shelf.old) (S.state shelf.new) words (λ a.
+        (a.outcome.certificate.status ≡ status) × AnswersProblem a.checked a.classes a.problem a.request.splits a.outcome) }
+    ensures answering { (words : List (List ℕ)) → Spells words (request order.now) → (p : Problem) → AcceptsTold (S.state shelf.old).files words p → (status : CertStatus) × MayFailAs (status_of status) result }
+    ensures hopeless { (words : List (List ℕ)) → Spells words (request order.now) → (p : Problem) → AcceptsTold (S.state shelf.old).files words p → ((g : Grouping) → ¬ IsFeasible p g) → MayFailAs Status.Hopeless result }
+
+    // Refused: a step refuses, exactly, and only the line of the first that does is said.
+    ensures refused { (words : List (List ℕ)) → Spells words (request order.now) → result ≡ Status.Refused → SaysRefusal (S.state shelf.old) (S.state shelf.new) words }
+    ensures refusing { (words : List (List ℕ)) → Spells words (request order.now) → (line : List ℕ) → RefusesTold (S.state shelf.old).files words line → MayFailAs Status.Refused result }
+
+    // The words are in a form.
+    ensures in_form { result ≢ Status.Usage }
+
+    // A fetch failed, or a store or a say did.
+    ensures read_fault { (words : List (List ℕ)) → Spells words (request order.now) → result ≡ Status.ReadFault → SaysReadFault (S.state shelf.old) (S.state shelf.new) words }
+    ensures write_fault { result ≡ Status.WriteFault → HasRisen (S.state shelf.old).put_faults (S.state shelf.new).put_faults }
+    ensures quiet { result ≢ Status.WriteFault → (S.state shelf.new).put_faults ≡ (S.state shelf.old).put_faults }
+
+    // Whatever comes: only due texts are stored, and only a due line is said, the report after all is stored.
+    ensures partly { (words : List (List ℕ)) → Spells words (request order.now) → KeepsPartly (S.state shelf.old).files (S.state shelf.new).files words }
+    ensures heard { (words : List (List ℕ)) → Spells words (request order.now) → IsHeard (S.state shelf.old) (S.state shelf.new) words }
+{
+    match decide(alloc, shelf, order, crew) {
+        Ok(plan) => carry_out(shelf, order, &plan),
+        Err(NoPlan::Stopped(stop)) => tell(shelf, &stop),
+        Err(NoPlan::Memory) => Status::Memory,
+    }
+}
+
 /// Generalises a map: reads the words and the files that they name, stores the certificate and the written map, and says the report.
 ///
-/// The words are `generalise grid MAP TABLE OUT CERT` and, anywhere behind the first, `--splits 0`. Then these steps are taken, and the
-/// first that fails decides: MAP is fetched, then TABLE; the length of each is looked at as it comes; the text of the map and that of the
-/// table are read; the coverage is checked; the problem is made and answered; CERT is stored, then OUT unless no grouping is feasible,
-/// and the report is said.
+/// The words are `generalise FORMAT MAP TABLE OUT CERT`, and FORMAT is `grid`, `topojson` or `geojson`. Anywhere behind the first there may
+/// be options: `--splits N` for at most N splits of the tree, up to 1,000,000 in one to seven digits, and 10,000 without it; `--class NAME`
+/// with `topojson` and `geojson` for the property that has the class texts, which is `class` without it; `--object NAME` with `topojson` for
+/// the object that is read, which is the only one without it. Then these steps are taken, and the first that fails decides: MAP is fetched,
+/// then TABLE; the length of each is looked at as it comes; the text of the map and that of the table are read; the coverage is checked; the
+/// problem is made and answered; CERT is stored, then OUT unless no grouping is feasible, and the report is said.
 ///
 /// - `Usage` comes exactly where the words are in no such form, and the usage is said.
 /// - `Refused` comes exactly where one of the steps refuses a file, with the line that says which and why.
 /// - `Done`, `Within` and `Hopeless` come where all is stored and said, as the bound is the cost, is below it, or no grouping is feasible.
+///   With `Within` the tree has exactly N splits, or each of its leaves of that bound stands at the greatest depth.
 /// - `ReadFault` comes only where a fetch failed, with the line that says of which file, and `WriteFault` only where a store or a say did.
 /// - `Memory` comes where memory runs out, at any point.
 pub fn run<S: Shelf, W: Crew>(alloc: Global, words: &Words, shelf: &mut S, crew: &W) -> Status
@@ -144,6 +190,9 @@ pub fn run<S: Shelf, W: Crew>(alloc: Global, words: &Words, shelf: &mut S, crew:
     ensures optimal { result ≡ Status.Done → PutsOut (S.state shelf.old) (S.state shelf.new) words.now (λ a. a.outcome.certificate.bound ≡ a.outcome.certificate.cost) }
     ensures within { result ≡ Status.Within → PutsOut (S.state shelf.old) (S.state shelf.new) words.now (λ a.
         (b c : ℤ) × (a.outcome.certificate.bound ≡ Some b) × (a.outcome.certificate.cost ≡ Some c) × (b <ℤ c)) }
+    ensures spent { result ≡ Status.Within → PutsOut (S.state shelf.old) (S.state shelf.new) words.now (λ a.
+        (b : ℤ) × (a.outcome.certificate.bound ≡ Some b) × IsUsedUp a.problem a.request.splits b a.outcome.certificate.tree) }
+    ensures enough { result ≡ Status.Within → PutsOut (S.state shelf.old) (S.state shelf.new) words.now (λ a. ¬ HasEnough a.problem a.request.splits) }
     ensures union { HasGrouping result → PutsOut (S.state shelf.old) (S.state shelf.new) words.now (λ a.
         (text : List ℕ) × (a.outcome.map ≡ Some text) × IsDrawnMap (odds_of a.checked.areas) a.outcome.certificate.grouping a.classes.names a.checked.frame text) }
 
@@ -152,7 +201,7 @@ pub fn run<S: Shelf, W: Crew>(alloc: Global, words: &Words, shelf: &mut S, crew:
 
     // All of this holds of one answer, and each told pair of files that is accepted gets one.
     ensures stated { (status : CertStatus) → result ≡ status_of status → PutsOut (S.state shelf.old) (S.state shelf.new) words.now (λ a.
-        (a.outcome.certificate.status ≡ status) × AnswersProblem a.checked a.classes a.problem a.outcome) }
+        (a.outcome.certificate.status ≡ status) × AnswersProblem a.checked a.classes a.problem a.request.splits a.outcome) }
     ensures answering { (p : Problem) → AcceptsTold (S.state shelf.old).files words.now p → (status : CertStatus) × MayFailAs (status_of status) result }
     ensures hopeless { (p : Problem) → AcceptsTold (S.state shelf.old).files words.now p → ((g : Grouping) → ¬ IsFeasible p g) → MayFailAs Status.Hopeless result }
 
@@ -180,9 +229,5 @@ pub fn run<S: Shelf, W: Crew>(alloc: Global, words: &Words, shelf: &mut S, crew:
     let Some(order) = order else {
         return tell(shelf, &Stop::Usage);
     };
-    match decide(alloc, shelf, &order, crew) {
-        Ok(plan) => carry_out(shelf, &order, &plan),
-        Err(NoPlan::Stopped(stop)) => tell(shelf, &stop),
-        Err(NoPlan::Memory) => Status::Memory,
-    }
+    generalise(alloc, &order, shelf, crew)
 }

@@ -1,19 +1,32 @@
 // The words of the command line.
 ghost use Rattle.std.specs.Prelude.{◌≡◌, ◌≤◌, ◌↔◌, List, ℕ, ◌∷◌, [], codes, Some, IsTrue, IfOk, IfSome, IfNone};
-ghost use Rattle.generalise_core.specs.Words.{Request, AreDifferent, IsNothing, Spells};
+ghost use Rattle.generalise_core.specs.Words.{Request, AreDifferent, Spells};
 ghost use Rattle.generalise_core.specs.Orders.{request};
 
 use crate::draft::read_draft;
 use agg_base::{NoMemory, Words};
+use generalise_steps::Format;
 use std::alloc::Global;
 
-/// The files that the words name.
-#[derive(Drop)]
-pub(crate) struct Order<'a> {
+/// The word of a format, and the files that are named behind it.
+#[derive(Clone, Copy)]
+pub(crate) struct Names<'a> {
+    pub format: &'a str,
     pub map: &'a str,
     pub table: &'a str,
     pub out: &'a str,
     pub certificate: &'a str,
+}
+
+/// The format of the map, the files that the words name, and how many splits there may be at most.
+#[derive(Drop)]
+pub(crate) struct Order<'a> {
+    pub format: Format,
+    pub map: &'a str,
+    pub table: &'a str,
+    pub out: &'a str,
+    pub certificate: &'a str,
+    pub splits: u32,
 }
 
 /// Whether no two of the names are equal.
@@ -28,15 +41,9 @@ pub(crate) fn are_different(first: &str, second: &str, third: &str, fourth: &str
         && third != fourth
 }
 
-/// Whether a number is 0, in one to seven digits.
-pub(crate) fn is_nothing(value: &str) -> bool
-    ensures { IsTrue result ↔ IsNothing value.now }
-{
-    let bytes = value.as_bytes();
-    !bytes.is_empty() && bytes.len() <= 7 && bytes.iter().all(|digit| *digit == b'0')
-}
-
-/// What the words ask for. The command stands first, and the option anywhere behind it; its value has one to seven digits.
+/// What the words ask for. The command stands first, and each option anywhere behind it, once at most, with its value. That of `--splits`
+/// is at most 1,000,000, in one to seven digits; `--class` stands only with a format that has properties, and `--object` only with
+/// `topojson`.
 pub(crate) fn read_words(alloc: Global, words: &Words) -> Result<Option<Order<'_>>, NoMemory>
     ensures found { IfOk result (λ r. IfSome r (λ a. Spells words.now (request a))) }
     ensures none { IfOk result (λ r. IfNone r ((r : Request) → ¬ (Spells words.now r))) }
@@ -47,5 +54,5 @@ pub(crate) fn read_words(alloc: Global, words: &Words) -> Result<Option<Order<'_
     let Some(draft) = read_draft(alloc, words)? else {
         return Ok(None);
     };
-    Ok(draft.order())
+    draft.order(alloc)
 }

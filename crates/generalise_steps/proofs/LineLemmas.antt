@@ -5,11 +5,10 @@ use Rattle.std.proofs.lemmas.Result.{IfOk-weaker}
 use Rattle.agg_base.specs.Texts.{text_of_words}
 use Rattle.plane_edge.specs.declared.edge.Edge.{Edge}
 use Rattle.plane_edge.specs.declared.spot.Spot.{Spot}
-use Rattle.grid_reader.specs.declared.fault.GridFault.TheVariants as grid
 use Rattle.class_table.specs.declared.fault.Why.{Why}
 use Rattle.class_table.specs.declared.fault.TableFault.TheVariants as tables
 use Rattle.coverage_check.specs.declared.fault.CoverFault.TheVariants as cover
-use Rattle.generalise_steps.specs.FaultLines.{map_line, table_line, cover_line, weight_line, why_word, edge_words, spot_words}
+use Rattle.generalise_steps.specs.FaultLines.{refusal, table_line, cover_line, weight_line, why_word, edge_words, spot_words}
 
 -- the text of what was printed is the line
 pub text_is : {E : Type 0} (r : Result (List ℕ) E) (now printed line : List ℕ) → IfOk r (λ t. t ≡ now) → now ≡ printed → printed ≡ line → IfOk r (λ t. t ≡ line)
@@ -24,8 +23,10 @@ text_of_words-more : (x y : List ℕ) (xs ys : List (List ℕ)) → text_of_word
 text_of_words-more x y [] ys = refl
 text_of_words-more x y (z ∷ xs) ys = ap (λ t. x ++ (32 ∷ t)) (text_of_words-more z y xs ys) ∙ sym (append_assoc x (32 ∷ text_of_words (z ∷ xs)) (32 ∷ text_of_words (y ∷ ys)))
 
-pub cell_line : (row column : ℕ) → codes "refused: map Cell " ++ (decimal row ++ (32 ∷ (decimal column ++ 10 ∷ []))) ≡ map_line (grid.Cell row column)
-unfolding map_line
+pub number_line : (name : List ℕ) (n : ℕ) → codes "refused: map " ++ (name ++ (32 ∷ (decimal n ++ 10 ∷ []))) ≡ refusal (codes "map") (name ∷ decimal n ∷ [])
+number_line name n = ap (λ t. codes "refused: map " ++ t) (two name (decimal n))
+
+pub cell_line : (row column : ℕ) → codes "refused: map Cell " ++ (decimal row ++ (32 ∷ (decimal column ++ 10 ∷ []))) ≡ refusal (codes "map") (codes "Cell" ∷ decimal row ∷ decimal column ∷ [])
 cell_line row column = ap (λ t. codes "refused: map Cell " ++ t) (two (decimal row) (decimal column))
 
 pub rule_line : (number : ℕ) (why : Why) → codes "refused: table Line " ++ (decimal number ++ (32 ∷ (why_word why ++ 10 ∷ []))) ≡ table_line (tables.Line number why)

@@ -8,6 +8,12 @@ use Rattle.plane_edge.specs.declared.frame.Limit.{Limit}
 use Rattle.plane_edge.specs.declared.frame.Limit.TheVariants as limit
 use Rattle.grid_reader.specs.declared.fault.GridFault.{GridFault}
 use Rattle.grid_reader.specs.declared.fault.GridFault.TheVariants as grid
+use Rattle.json_text.specs.declared.fault.JsonFault.{JsonFault}
+use Rattle.json_text.specs.declared.fault.JsonFault.TheVariants as json
+use Rattle.topo_reader.specs.declared.fault.TopoFault.{TopoFault}
+use Rattle.topo_reader.specs.declared.fault.TopoFault.TheVariants as topology
+use Rattle.geo_reader.specs.declared.fault.GeoFault.{GeoFault}
+use Rattle.geo_reader.specs.declared.fault.GeoFault.TheVariants as features
 use Rattle.class_table.specs.declared.fault.Why.{Why}
 use Rattle.class_table.specs.declared.fault.Why.TheVariants as why
 use Rattle.class_table.specs.declared.fault.TableFault.{TableFault}
@@ -28,16 +34,51 @@ limit_word limit.Edges = codes "Edges"
 limit_word limit.Cells = codes "Cells"
 
 -- want of memory has no words, for it is no fault of a text
-abbrev pub map_words : GridFault → List (List ℕ)
-map_words (grid.Header line) = codes "Header" ∷ decimal line ∷ []
-map_words (grid.Centred line) = codes "Centred" ∷ decimal line ∷ []
-map_words (grid.Cell row column) = codes "Cell" ∷ decimal row ∷ decimal column ∷ []
-map_words (grid.Count found) = codes "Count" ∷ decimal found ∷ []
-map_words (grid.Limit limit) = codes "Limit" ∷ limit_word limit ∷ []
-map_words grid.Memory = []
+abbrev pub grid_words : GridFault → List (List ℕ)
+grid_words (grid.Header line) = codes "Header" ∷ decimal line ∷ []
+grid_words (grid.Centred line) = codes "Centred" ∷ decimal line ∷ []
+grid_words (grid.Cell row column) = codes "Cell" ∷ decimal row ∷ decimal column ∷ []
+grid_words (grid.Count found) = codes "Count" ∷ decimal found ∷ []
+grid_words (grid.Limit limit) = codes "Limit" ∷ limit_word limit ∷ []
+grid_words grid.Memory = []
 
-unfoldable pub map_line : GridFault → List ℕ
-map_line fault = refusal (codes "map") (map_words fault)
+abbrev pub json_words : JsonFault → List (List ℕ)
+json_words (json.Syntax at) = codes "Syntax" ∷ decimal at ∷ []
+json_words (json.TooDeep at) = codes "TooDeep" ∷ decimal at ∷ []
+json_words json.Memory = []
+
+abbrev pub topology_words : TopoFault → List (List ℕ)
+topology_words topology.NotTopology = codes "NotTopology" ∷ []
+topology_words topology.NoObject = codes "NoObject" ∷ []
+topology_words (topology.BadArc arc) = codes "BadArc" ∷ decimal arc ∷ []
+topology_words (topology.NotWhole arc) = codes "NotWhole" ∷ decimal arc ∷ []
+topology_words (topology.NotPolygonal place) = codes "NotPolygonal" ∷ decimal place ∷ []
+topology_words (topology.NoClass place) = codes "NoClass" ∷ decimal place ∷ []
+topology_words (topology.BadIndex place) = codes "BadIndex" ∷ decimal place ∷ []
+topology_words (topology.OpenRing place) = codes "OpenRing" ∷ decimal place ∷ []
+topology_words (topology.Limit limit) = codes "Limit" ∷ limit_word limit ∷ []
+topology_words topology.Memory = []
+
+abbrev pub features_words : GeoFault → List (List ℕ)
+features_words features.NotGeoJson = codes "NotGeoJson" ∷ []
+features_words (features.NotPolygonal place) = codes "NotPolygonal" ∷ decimal place ∷ []
+features_words (features.NoClass place) = codes "NoClass" ∷ decimal place ∷ []
+features_words (features.NotWhole place) = codes "NotWhole" ∷ decimal place ∷ []
+features_words (features.OpenRing place) = codes "OpenRing" ∷ decimal place ∷ []
+features_words (features.Limit limit) = codes "Limit" ∷ limit_word limit ∷ []
+features_words features.Memory = []
+
+unfoldable pub grid_line : GridFault → List ℕ
+grid_line fault = refusal (codes "map") (grid_words fault)
+
+unfoldable pub json_line : JsonFault → List ℕ
+json_line fault = refusal (codes "map") (json_words fault)
+
+unfoldable pub topology_line : TopoFault → List ℕ
+topology_line fault = refusal (codes "map") (topology_words fault)
+
+unfoldable pub features_line : GeoFault → List ℕ
+features_line fault = refusal (codes "map") (features_words fault)
 
 -- ---- the table's text
 

@@ -1,4 +1,5 @@
 pub mod FaultLines
+pub mod MapTexts
 pub mod Halts
 pub mod Loads
 pub mod Refusals

@@ -6,12 +6,18 @@ mod graph_lines;
 mod halt;
 mod laws;
 mod loading;
+mod map_format;
 mod map_lines;
+mod map_reading;
 mod table_lines;
 
 pub use halt::Halt;
-pub use laws::{loaded_without_refusal_law, one_load_law, one_refusal_law};
+pub use laws::{
+    frame_law, loaded_without_refusal_law, map_without_line_law, one_line_law, one_load_law,
+    one_map_law, one_refusal_law,
+};
 pub use loading::{Loaded, load};
+pub use map_format::Format;
 
 #[cfg(test)]
 mod tests;

@@ -1,17 +1,19 @@
 // From two texts to the problem, step by step. The first step that refuses decides.
 ghost use Rattle.std.specs.Prelude.{◌≡◌, ◌≤◌, ℕ, List, length, IfOk, IfErr, Err};
-ghost use Rattle.plane_edge.specs.Rings.{Area};
-ghost use Rattle.plane_edge.specs.declared.frame.Frame.{Frame};
-ghost use Rattle.grid_reader.specs.GridTexts.{SpellsGrid};
+ghost use Rattle.map_values.specs.Layers.{Layer};
 ghost use Rattle.class_table.specs.Table.{Table};
 ghost use Rattle.class_table.specs.TableTexts.{IsTableText};
 ghost use Rattle.area_graph.specs.Problems.{IsProblemOf};
+ghost use Rattle.topo_reader.specs.Outcomes.{layer_of};
 ghost use Rattle.generalise_steps.specs.Halts.{IfRefused};
+ghost use Rattle.generalise_steps.specs.MapTexts.{SpellsMap};
 ghost use Rattle.generalise_steps.specs.Loads.{IsMap, Loads};
 ghost use Rattle.generalise_steps.specs.Refusals.{Refuses};
+ghost use Rattle.generalise_steps.specs.declared.map_format.Format.{Format};
 
 use crate::graph_lines::{no_weight, unknown_class};
-use crate::{Halt, cover_lines, map_lines, table_lines};
+use crate::map_reading::read_map;
+use crate::{Format, Halt, cover_lines, table_lines};
 use agg_base::limits::{MAP_BYTES, TABLE_BYTES};
 use agg_model::Problem;
 use area_graph::{GraphFault, problem_of};
@@ -32,24 +34,12 @@ pub struct Loaded {
     pub problem: Problem,
 }
 
-// Reads the map's text.
-fn read_map(alloc: Global, map: &[u8]) -> Result<Coverage, Halt>
-    requires { length map.now ≤ MAP_BYTES }
-    ensures found { IfOk result (λ c. SpellsGrid map.now c.areas.items c.frame) }
-    ensures passed { IfOk result (λ c. c.passed ≡ 0) }
-    ensures refused { (table : List ℕ) → IfErr result (λ h. IfRefused h (Refuses map.now table)) }
-{
-    match grid_reader::read(alloc, map) {
-        Ok(coverage) => Ok(coverage),
-        Err(fault) => Err(Halt::of(map_lines::line_of(alloc, fault))),
-    }
-}
-
 // Reads the table's text.
 fn read_table(alloc: Global, table: &[u8]) -> Result<Table, Halt>
     requires { length table.now ≤ TABLE_BYTES }
     ensures found { IfOk result (λ t. IsTableText table.now t) }
-    ensures refused { (map : List ℕ) (areas : List Area) (frame : Frame) → SpellsGrid map areas frame → IfErr result (λ h. IfRefused h (Refuses map table.now)) }
+    ensures refused { (format : Format) (map : List ℕ) (layer : Layer) → SpellsMap format map layer
+        → IfErr result (λ h. IfRefused h (Refuses format map table.now)) }
 {
     match class_table::read(alloc, table) {
         Ok(table) => Ok(table),
@@ -59,10 +49,9 @@ fn read_table(alloc: Global, table: &[u8]) -> Result<Table, Halt>
 
 // Checks the coverage.
 fn check_cover<W: Crew>(alloc: Global, coverage: Coverage, crew: &W) -> Result<Checked, Halt>
-    requires passed { coverage.passed ≡ 0 }
-    ensures found { (map : List ℕ) → SpellsGrid map coverage.areas.items coverage.frame → IfOk result (λ c. IsMap map c) }
-    ensures refused { (map table : List ℕ) (t : Table) → SpellsGrid map coverage.areas.items coverage.frame → IsTableText table t
-        → IfErr result (λ h. IfRefused h (Refuses map table)) }
+    ensures found { (format : Format) (map : List ℕ) → SpellsMap format map (layer_of coverage) → IfOk result (λ c. IsMap format map c) }
+    ensures refused { (format : Format) (map table : List ℕ) (t : Table) → SpellsMap format map (layer_of coverage) → IsTableText table t
+        → IfErr result (λ h. IfRefused h (Refuses format map table)) }
 {
     match check(alloc, coverage, crew) {
         Ok(checked) => Ok(checked),
@@ -73,7 +62,8 @@ fn check_cover<W: Crew>(alloc: Global, coverage: Coverage, crew: &W) -> Result<C
 // Makes the problem.
 fn make_problem(alloc: Global, checked: &Checked, table: &Table) -> Result<Problem, Halt>
     ensures found { IfOk result (λ p. IsProblemOf checked.now.areas table.now p) }
-    ensures refused { (map text : List ℕ) → IsMap map checked.now → IsTableText text table.now → IfErr result (λ h. IfRefused h (Refuses map text)) }
+    ensures refused { (format : Format) (map text : List ℕ) → IsMap format map checked.now → IsTableText text table.now
+        → IfErr result (λ h. IfRefused h (Refuses format map text)) }
 {
     match problem_of(alloc, checked, table) {
         Ok(problem) => Ok(problem),
@@ -85,18 +75,27 @@ fn make_problem(alloc: Global, checked: &Checked, table: &Table) -> Result<Probl
 
 /// The checked map, the class table and the problem that the texts of a map and of a table spell.
 ///
-/// The map is an ESRI ASCII grid. There are four steps: the map is read, the table is read, the coverage is checked, and the problem
-/// is made. `Refused` comes exactly where one of them refuses, and carries the line of the first that does: `refused:`, where the
-/// fault is, its name and its fields, parted by spaces, and a line feed, as in `refused: map Cell 0 1`. It is in the `map` or the
-/// `table` for a text, in the `coverage` for borders that cross or areas that overlap, in the `classes` for an area whose class text
-/// is no name of the table, and in the `weights` for an area that weighs less than 1. The answer is the same for every crew.
-pub fn load<W: Crew>(alloc: Global, map: &[u8], table: &[u8], crew: &W) -> Result<Loaded, Halt>
+/// There are four steps: the map is read by its format, the table is read, the coverage is checked, and the problem is made. `Refused`
+/// comes exactly where one of them refuses, and carries the line of the first that does: `refused:`, where the fault is, its name and
+/// its fields, parted by spaces, and a line feed, as in `refused: map NoClass 7`. It is in the `map` or the `table` for a text, in the
+/// `coverage` for borders that cross or areas that overlap, in the `classes` for an area whose class text is no name of the table, and in
+/// the `weights` for an area that weighs less than 1. The answer is the same for every crew.
+///
+/// A map in TopoJSON or GeoJSON is read as a text of JSON first (RFC 8259), with `Syntax` and `TooDeep` for its faults, and then by the
+/// reader of its format. Arcs and places of faults count from 0, bytes of `Syntax` and `TooDeep` too.
+pub fn load<W: Crew>(
+    alloc: Global,
+    format: &Format,
+    map: &[u8],
+    table: &[u8],
+    crew: &W,
+) -> Result<Loaded, Halt>
     requires map { length map.now ≤ MAP_BYTES }
     requires table { length table.now ≤ TABLE_BYTES }
-    ensures found { IfOk result (λ l. Loads map.now table.now l.checked l.table l.problem) }
-    ensures refused { (line : List ℕ) → result ≡ Err (Halt.Refused line) → Refuses map.now table.now line }
+    ensures found { IfOk result (λ l. Loads format.now map.now table.now l.checked l.table l.problem) }
+    ensures refused { (line : List ℕ) → result ≡ Err (Halt.Refused line) → Refuses format.now map.now table.now line }
 {
-    let coverage = read_map(alloc, map)?;
+    let coverage = read_map(alloc, format, map)?;
     let table = read_table(alloc, table)?;
     let checked = check_cover(alloc, coverage, crew)?;
     let problem = make_problem(alloc, &checked, &table)?;

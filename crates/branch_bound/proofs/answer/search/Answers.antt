@@ -1,7 +1,6 @@
-use Rattle.std.proofs.Common.{◌≡◌, ◌≤◌, ℕ, ap, ◌∙◌, sym, subst, arith}
+use Rattle.std.proofs.Common.{ℕ, ◌∙◌, subst, arith}
 use Rattle.std.specs.Int.{w128}
 use Rattle.std.proofs.lemmas.Int.{to_z-of_z}
-use Rattle.row_laws.specs.Values.{Allowed, RowSum}
 use Rattle.branch_bound.specs.declared.tips.Rank.{Rank}
 use Rattle.branch_bound.specs.Growth.{shape_of}
 use Rattle.branch_bound.specs.Outcomes.{IsKind, IsKindBy}
@@ -9,7 +8,7 @@ use Rattle.branch_bound.proofs.SearchLemmas.{search_same, solved, asked_for, ask
 use Rattle.branch_bound.proofs.answer.search.Goals as goal
 
 pub of-requires : goal.of-requires
-of-requires g c = record { feasible = c.requires.feasible; numbered = c.requires.numbered; costs = to_z-of_z w128 c.cost-cost.result (record { sfits = c.cost-cost.type_inv }) ∙ c.cost-cost.ensures }
+of-requires g c = record { feasible = c.requires.feasible; numbered = c.requires.numbered; cheap = c.requires.cheap; costs = to_z-of_z w128 c.cost-cost.result (record { sfits = c.cost-cost.type_inv }) ∙ c.cost-cost.ensures }
 
 pub run-requires-clause-state : goal.run-requires-clause-state
 run-requires-clause-state g c =

@@ -1,5 +1,4 @@
-use Rattle.std.proofs.Common.{◌≡◌, ◌<◌, arith, slice_index}
-use Rattle.agg_model.specs.Problem.{areas}
+use Rattle.std.proofs.Common.{◌<◌, arith, slice_index}
 use Rattle.bound_rows.specs.Domains.{allows}
 use Rattle.branch_bound.proofs.LawLemmas.{kind_is}
 use Rattle.branch_bound.proofs.components.kinds_of.Goals as goal

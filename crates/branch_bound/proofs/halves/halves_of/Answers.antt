@@ -1,8 +1,4 @@
-use Rattle.std.proofs.Common.{subst, sym, ℕ}
-use Rattle.std.proofs.lemmas.Result.{IfOk-weaker}
 use Rattle.bound_rows.specs.Domains.{allows}
-use Rattle.branch_bound.specs.Trees.{IsFork}
-use Rattle.branch_bound.specs.declared.halves.Halves.{Halves}
 use Rattle.branch_bound.proofs.HalfLemmas.{split_at}
 use Rattle.branch_bound.proofs.halves.halves_of.Goals as goal
 

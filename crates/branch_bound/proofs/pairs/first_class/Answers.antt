@@ -1,4 +1,4 @@
-use Rattle.std.proofs.Common.{◌≡◌, sym, ◌∙◌, arith}
+use Rattle.std.proofs.Common.{sym, ◌∙◌, arith}
 use Rattle.row_laws.proofs.Tests.{clash}
 use Rattle.branch_bound.proofs.pairs.first_class.Goals as goal
 

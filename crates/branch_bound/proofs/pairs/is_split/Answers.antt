@@ -1,4 +1,4 @@
-use Rattle.std.proofs.Common.{◌≡◌, sym, ◌∙◌, arith}
+use Rattle.std.proofs.Common.{sym, ◌∙◌, arith}
 use Rattle.row_laws.proofs.Tests.{clash}
 use Rattle.bound_rows.proofs.KindLemmas.{single_classes}
 use Rattle.branch_bound.proofs.PairLemmas.{fork_of}

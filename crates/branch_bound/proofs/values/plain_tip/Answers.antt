@@ -1,4 +1,4 @@
-use Rattle.std.proofs.Common.{◌≡◌, ◌∙◌, ap, sym, Ok}
+use Rattle.std.proofs.Common.{◌∙◌, ap}
 use Rattle.row_laws.specs.Values.{RowSum}
 use Rattle.row_laws.specs.Exact.{answer}
 use Rattle.row_laws.specs.declared.bound.Bound.TheVariants.{Least}

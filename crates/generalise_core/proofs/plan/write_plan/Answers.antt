@@ -1,4 +1,4 @@
-use Rattle.std.proofs.Common.{◌≡◌, ◌∙◌, ℕ, List, Option, None, refl, rules}
+use Rattle.std.proofs.Common.{◌≡◌, ◌∙◌, ℕ, List, Option, None, refl}
 use Rattle.cert_text.specs.declared.certificate.Certificate.{Certificate}
 use Rattle.generalise_core.specs.Certificates.{report}
 use Rattle.generalise_core.proofs.plan.write_plan.Goals as goal

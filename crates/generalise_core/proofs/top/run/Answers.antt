@@ -1,91 +1,74 @@
--- What is not found by search: a run that may end in one way may end in no other.
-use Rattle.std.proofs.Common.{◌∙◌}
+-- What is said of words that are in no form, and word by word of what is stated.
 use Rattle.generalise_core.specs.Orders.{request}
-use Rattle.generalise_core.proofs.Exclusions.{answered_not_refused, stated_hopeless, stopped_accepted}
-use Rattle.generalise_core.proofs.RunLemmas.{heard_usage, heard_stop, heard_report, partly_kept, as_refused, as_missed, fails_any, fails_as, ends_as}
-use Rattle.generalise_core.proofs.Headlines.{stated, feasible_of, cost_of, bound_of, optimal_of, within_of, union_of, none_of}
+use Rattle.generalise_core.proofs.DraftLemmas.{few_splits}
+use Rattle.generalise_core.proofs.RunLemmas.{heard_usage}
+use Rattle.generalise_core.proofs.Headlines.{feasible_of, cost_of, bound_of, optimal_of, within_of, spent_of, enough_of, union_of, none_of}
 use Rattle.generalise_core.proofs.top.run.Goals as goal
 
--- ---- all is stored and said
+pub generalise-requires : goal.generalise-requires
+generalise-requires g c = few_splits c.args.words.now (request c.in-Some.order) (rw c.in-Some.is at c.in-Ok.ensures.found)
 
-pub returns-in-Ok-decide-clause-stated : goal.returns-in-Ok-decide-clause-stated
-returns-in-Ok-decide-clause-stated g c =
-    stated (g.S.Shelf.state c.args.shelf.now) (g.S.Shelf.state c.decide.new.shelf) (g.S.Shelf.state c.carry_out.new.shelf) _ (request c.in-Some.order) _ _ (rw c.in-Some.is at c.in-Ok.ensures.found) c.in-Ok-decide.ensures.0 c.in-Ok-decide.ensures.1 c.carry_out.ensures.status c.carry_out.ensures.whole
+-- ---- the words spell a request
 
-pub returns-in-Ok-decide-clause-feasible : goal.returns-in-Ok-decide-clause-feasible
-returns-in-Ok-decide-clause-feasible g c = feasible_of (g.S.Shelf.state c.args.shelf.now) (g.S.Shelf.state c.carry_out.new.shelf) _ _ (returns-in-Ok-decide-clause-stated g c)
+pub returns-clause-stated : goal.returns-clause-stated
+returns-clause-stated g c = c.generalise.ensures.stated c.args.words.now (rw c.in-Some.is at c.in-Ok.ensures.found)
 
-pub returns-in-Ok-decide-clause-cost : goal.returns-in-Ok-decide-clause-cost
-returns-in-Ok-decide-clause-cost g c = cost_of (g.S.Shelf.state c.args.shelf.now) (g.S.Shelf.state c.carry_out.new.shelf) _ _ (returns-in-Ok-decide-clause-stated g c)
+pub returns-clause-feasible : goal.returns-clause-feasible
+returns-clause-feasible g c = feasible_of (g.S.Shelf.state c.args.shelf.now) (g.S.Shelf.state c.generalise.new.shelf) _ _ (returns-clause-stated g c)
 
-pub returns-in-Ok-decide-clause-bound : goal.returns-in-Ok-decide-clause-bound
-returns-in-Ok-decide-clause-bound g c = bound_of (g.S.Shelf.state c.args.shelf.now) (g.S.Shelf.state c.carry_out.new.shelf) _ _ (returns-in-Ok-decide-clause-stated g c)
+pub returns-clause-cost : goal.returns-clause-cost
+returns-clause-cost g c = cost_of (g.S.Shelf.state c.args.shelf.now) (g.S.Shelf.state c.generalise.new.shelf) _ _ (returns-clause-stated g c)
 
-pub returns-in-Ok-decide-clause-optimal : goal.returns-in-Ok-decide-clause-optimal
-returns-in-Ok-decide-clause-optimal g c = optimal_of (g.S.Shelf.state c.args.shelf.now) (g.S.Shelf.state c.carry_out.new.shelf) _ _ (returns-in-Ok-decide-clause-stated g c)
+pub returns-clause-bound : goal.returns-clause-bound
+returns-clause-bound g c = bound_of (g.S.Shelf.state c.args.shelf.now) (g.S.Shelf.state c.generalise.new.shelf) _ _ (returns-clause-stated g c)
 
-pub returns-in-Ok-decide-clause-within : goal.returns-in-Ok-decide-clause-within
-returns-in-Ok-decide-clause-within g c = within_of (g.S.Shelf.state c.args.shelf.now) (g.S.Shelf.state c.carry_out.new.shelf) _ _ (returns-in-Ok-decide-clause-stated g c)
+pub returns-clause-optimal : goal.returns-clause-optimal
+returns-clause-optimal g c = optimal_of (g.S.Shelf.state c.args.shelf.now) (g.S.Shelf.state c.generalise.new.shelf) _ _ (returns-clause-stated g c)
 
-pub returns-in-Ok-decide-clause-union : goal.returns-in-Ok-decide-clause-union
-returns-in-Ok-decide-clause-union g c = union_of (g.S.Shelf.state c.args.shelf.now) (g.S.Shelf.state c.carry_out.new.shelf) _ _ (returns-in-Ok-decide-clause-stated g c)
+pub returns-clause-within : goal.returns-clause-within
+returns-clause-within g c = within_of (g.S.Shelf.state c.args.shelf.now) (g.S.Shelf.state c.generalise.new.shelf) _ _ (returns-clause-stated g c)
 
-pub returns-in-Ok-decide-clause-none : goal.returns-in-Ok-decide-clause-none
-returns-in-Ok-decide-clause-none g c = none_of (g.S.Shelf.state c.args.shelf.now) (g.S.Shelf.state c.carry_out.new.shelf) _ _ (returns-in-Ok-decide-clause-stated g c)
+pub returns-clause-spent : goal.returns-clause-spent
+returns-clause-spent g c = spent_of (g.S.Shelf.state c.args.shelf.now) (g.S.Shelf.state c.generalise.new.shelf) _ _ (returns-clause-stated g c)
 
-pub returns-in-Ok-decide-clause-unspelled : goal.returns-in-Ok-decide-clause-unspelled
-returns-in-Ok-decide-clause-unspelled g c = λ never. absurd (never _ (rw c.in-Some.is at c.in-Ok.ensures.found))
+pub returns-clause-enough : goal.returns-clause-enough
+returns-clause-enough g c = enough_of (g.S.Shelf.state c.args.shelf.now) (g.S.Shelf.state c.generalise.new.shelf) _ _ (returns-clause-stated g c)
 
-pub returns-in-Ok-decide-clause-unfetched : goal.returns-in-Ok-decide-clause-unfetched
-returns-in-Ok-decide-clause-unfetched g c = λ never. absurd (never _ (rw c.in-Some.is at c.in-Ok.ensures.found))
+pub returns-clause-union : goal.returns-clause-union
+returns-clause-union g c = union_of (g.S.Shelf.state c.args.shelf.now) (g.S.Shelf.state c.generalise.new.shelf) _ _ (returns-clause-stated g c)
 
-pub returns-in-Ok-decide-clause-refusing : goal.returns-in-Ok-decide-clause-refusing
-returns-in-Ok-decide-clause-refusing g c = λ line refused. absurd (answered_not_refused _ _ _ _ line (rw c.in-Some.is at c.in-Ok.ensures.found) c.in-Ok-decide.ensures.0.answers refused)
+pub returns-clause-none : goal.returns-clause-none
+returns-clause-none g c = none_of (g.S.Shelf.state c.args.shelf.now) (g.S.Shelf.state c.generalise.new.shelf) _ _ (returns-clause-stated g c)
 
-pub returns-in-Ok-decide-clause-hopeless : goal.returns-in-Ok-decide-clause-hopeless
-returns-in-Ok-decide-clause-hopeless g c = λ p problem never.
-    ends_as _ _ _ (c.in-Ok-decide.ensures.0.writes.status ∙ stated_hopeless _ _ _ _ p (rw c.in-Some.is at c.in-Ok.ensures.found) c.in-Ok-decide.ensures.0.answers problem never) c.carry_out.ensures.status
+pub returns-clause-answering : goal.returns-clause-answering
+returns-clause-answering g c = c.generalise.ensures.answering c.args.words.now (rw c.in-Some.is at c.in-Ok.ensures.found)
 
-pub returns-in-Ok-decide-clause-partly : goal.returns-in-Ok-decide-clause-partly
-returns-in-Ok-decide-clause-partly g c =
-    partly_kept (g.S.Shelf.state c.args.shelf.now) (g.S.Shelf.state c.decide.new.shelf) (g.S.Shelf.state c.carry_out.new.shelf) _ (request c.in-Some.order) _ (rw c.in-Some.is at c.in-Ok.ensures.found) c.in-Ok-decide.ensures.0 c.in-Ok-decide.ensures.1 c.carry_out.ensures.partly
+pub returns-clause-hopeless : goal.returns-clause-hopeless
+returns-clause-hopeless g c = c.generalise.ensures.hopeless c.args.words.now (rw c.in-Some.is at c.in-Ok.ensures.found)
 
-pub returns-in-Ok-decide-clause-heard : goal.returns-in-Ok-decide-clause-heard
-returns-in-Ok-decide-clause-heard g c =
-    heard_report (g.S.Shelf.state c.args.shelf.now) (g.S.Shelf.state c.decide.new.shelf) (g.S.Shelf.state c.carry_out.new.shelf) _ (request c.in-Some.order) _ (rw c.in-Some.is at c.in-Ok.ensures.found) c.in-Ok-decide.ensures.0 c.in-Ok-decide.ensures.1 c.carry_out.ensures.heard
+pub returns-clause-usage : goal.returns-clause-usage
+returns-clause-usage g c = λ e. absurd (c.generalise.ensures.in_form e)
 
--- ---- a line says why nothing is stored
+pub returns-clause-unspelled : goal.returns-clause-unspelled
+returns-clause-unspelled g c = λ never. absurd (never _ (rw c.in-Some.is at c.in-Ok.ensures.found))
 
-pub returns-in-Err-Stopped-clause-unspelled : goal.returns-in-Err-Stopped-clause-unspelled
-returns-in-Err-Stopped-clause-unspelled g c = λ never. absurd (never _ (rw c.in-Some.is at c.in-Ok.ensures.found))
+pub returns-clause-unfetched : goal.returns-clause-unfetched
+returns-clause-unfetched g c = λ never. absurd (never _ (rw c.in-Some.is at c.in-Ok.ensures.found))
 
-pub returns-in-Err-Stopped-clause-unfetched : goal.returns-in-Err-Stopped-clause-unfetched
-returns-in-Err-Stopped-clause-unfetched g c = λ never. absurd (never _ (rw c.in-Some.is at c.in-Ok.ensures.found))
+pub returns-clause-refused : goal.returns-clause-refused
+returns-clause-refused g c = c.generalise.ensures.refused c.args.words.now (rw c.in-Some.is at c.in-Ok.ensures.found)
 
-pub returns-in-Err-Stopped-clause-refused : goal.returns-in-Err-Stopped-clause-refused
-returns-in-Err-Stopped-clause-refused g c = λ e.
-    let is = rw c.in-Err-Stopped.field-0-is at c.in-Err-Stopped.ensures in
-    as_refused (g.S.Shelf.state c.args.shelf.now) (g.S.Shelf.state c.decide.new.shelf) (g.S.Shelf.state c.tell-in-Err-Stopped.new.shelf) (request c.in-Some.order) _ _ _ (rw c.in-Some.is at c.in-Ok.ensures.found) is.0 (rw c.in-Err-Stopped.field-0-is at c.tell-in-Err-Stopped.ensures.status) (rw c.in-Err-Stopped.field-0-is at c.tell-in-Err-Stopped.ensures.heard) e
+pub returns-clause-refusing : goal.returns-clause-refusing
+returns-clause-refusing g c = c.generalise.ensures.refusing c.args.words.now (rw c.in-Some.is at c.in-Ok.ensures.found)
 
-pub returns-in-Err-Stopped-clause-read_fault : goal.returns-in-Err-Stopped-clause-read_fault
-returns-in-Err-Stopped-clause-read_fault g c = λ e.
-    let is = rw c.in-Err-Stopped.field-0-is at c.in-Err-Stopped.ensures in
-    as_missed (g.S.Shelf.state c.args.shelf.now) (g.S.Shelf.state c.decide.new.shelf) (g.S.Shelf.state c.tell-in-Err-Stopped.new.shelf) (request c.in-Some.order) _ _ _ (rw c.in-Some.is at c.in-Ok.ensures.found) is.0 is.1 (rw c.in-Err-Stopped.field-0-is at c.tell-in-Err-Stopped.ensures.status) (rw c.in-Err-Stopped.field-0-is at c.tell-in-Err-Stopped.ensures.heard) e
+pub returns-clause-read_fault : goal.returns-clause-read_fault
+returns-clause-read_fault g c = c.generalise.ensures.read_fault c.args.words.now (rw c.in-Some.is at c.in-Ok.ensures.found)
 
-pub returns-in-Err-Stopped-clause-answering : goal.returns-in-Err-Stopped-clause-answering
-returns-in-Err-Stopped-clause-answering g c = λ p problem.
-    let is = rw c.in-Err-Stopped.field-0-is at c.in-Err-Stopped.ensures in
-    fails_any _ _ (stopped_accepted (g.S.Shelf.state c.args.shelf.now) (g.S.Shelf.state c.decide.new.shelf) _ (request c.in-Some.order) _ p (rw c.in-Some.is at c.in-Ok.ensures.found) problem is.0) (rw c.in-Err-Stopped.field-0-is at c.tell-in-Err-Stopped.ensures.status)
+pub returns-clause-partly : goal.returns-clause-partly
+returns-clause-partly g c = c.generalise.ensures.partly c.args.words.now (rw c.in-Some.is at c.in-Ok.ensures.found)
 
-pub returns-in-Err-Stopped-clause-hopeless : goal.returns-in-Err-Stopped-clause-hopeless
-returns-in-Err-Stopped-clause-hopeless g c = λ p problem never.
-    let is = rw c.in-Err-Stopped.field-0-is at c.in-Err-Stopped.ensures in
-    fails_as _ _ _ (stopped_accepted (g.S.Shelf.state c.args.shelf.now) (g.S.Shelf.state c.decide.new.shelf) _ (request c.in-Some.order) _ p (rw c.in-Some.is at c.in-Ok.ensures.found) problem is.0) (rw c.in-Err-Stopped.field-0-is at c.tell-in-Err-Stopped.ensures.status)
-
-pub returns-in-Err-Stopped-clause-heard : goal.returns-in-Err-Stopped-clause-heard
-returns-in-Err-Stopped-clause-heard g c =
-    let is = rw c.in-Err-Stopped.field-0-is at c.in-Err-Stopped.ensures in
-    heard_stop (g.S.Shelf.state c.args.shelf.now) (g.S.Shelf.state c.decide.new.shelf) (g.S.Shelf.state c.tell-in-Err-Stopped.new.shelf) _ (request c.in-Some.order) _ (rw c.in-Some.is at c.in-Ok.ensures.found) is.0 is.1 c.tell-in-Err-Stopped.ensures.frame (rw c.in-Err-Stopped.field-0-is at c.tell-in-Err-Stopped.ensures.partly)
+pub returns-clause-heard : goal.returns-clause-heard
+returns-clause-heard g c = c.generalise.ensures.heard c.args.words.now (rw c.in-Some.is at c.in-Ok.ensures.found)
 
 -- ---- the words are in no form, so they name no files
 

@@ -1,5 +1,4 @@
 use Rattle.std.proofs.Common.{sym, subst}
-use Rattle.row_laws.specs.Values.{Allowed, RowSum}
 use Rattle.bound_rows.specs.Domains.{allows}
 use Rattle.branch_bound.specs.Shapes.{Shape}
 use Rattle.branch_bound.specs.Trees.{IsGrown, IsGoodTip, IsSpent}

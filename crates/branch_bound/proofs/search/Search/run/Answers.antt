@@ -1,8 +1,4 @@
-use Rattle.std.proofs.Common.{◌≡◌, ◌+◌, ℕ, Bool, true, false, sym, ◌∙◌, ap, subst, arith, inl, inr}
-use Rattle.std.proofs.lemmas.Bool.Decides.{nat_tests}
-use Rattle.row_laws.specs.Values.{Allowed, RowSum}
-use Rattle.branch_bound.specs.declared.tips.Rank.{Rank}
-use Rattle.branch_bound.specs.Tips.{is_open}
+use Rattle.std.proofs.Common.{◌+◌, ◌∙◌, ap, arith}
 use Rattle.branch_bound.proofs.SearchLemmas.{search_same}
 use Rattle.branch_bound.proofs.search.Search.run.Goals as goal
 

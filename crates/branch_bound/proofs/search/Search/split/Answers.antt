@@ -2,7 +2,7 @@ use Rattle.std.proofs.Common.{◌≡◌, ◌+◌, ◌<◌, ℕ, ap, ◌∙◌, s
 use Rattle.agg_base.specs.declared.limits.TheConstants.{DEPTH}
 use Rattle.agg_model.specs.Problem.{areas}
 use Rattle.row_laws.specs.Fixed.{AreSingle}
-use Rattle.row_laws.specs.Values.{Allowed, RowSum}
+use Rattle.row_laws.specs.Values.{Allowed}
 use Rattle.bound_rows.specs.Domains.{allows}
 use Rattle.branch_bound.specs.declared.growth.Growth.{Growth}
 use Rattle.branch_bound.specs.Growth.{shape_of}
@@ -41,6 +41,18 @@ pub returns-in_err-right-clause-fits : goal.returns-in_err-right-clause-fits
 returns-in_err-right-clause-fits g c = λ p f n s. (
   λ x. (c.in_ok-left.ensures.fits p f n s).0 ((c.in_err-right.ensures.fits p f n s).0 x),
   λ x. (c.in_err-right.ensures.fits p f n s).1 ((c.in_ok-left.ensures.fits p f n s).1 x),
+)
+
+pub returns-in_err-fork-clause-fits : goal.returns-in_err-fork-clause-fits
+returns-in_err-fork-clause-fits g c = λ p f n s. (
+  λ x. (c.in_ok-left.ensures.fits p f n s).0 ((c.in_ok-right.ensures.fits p f n s).0 x),
+  λ x. (c.in_ok-right.ensures.fits p f n s).1 ((c.in_ok-left.ensures.fits p f n s).1 x),
+)
+
+pub returns-clause-fits : goal.returns-clause-fits
+returns-clause-fits g c = λ p f n s. (
+  λ x. (c.in_ok-left.ensures.fits p f n s).0 ((c.in_ok-right.ensures.fits p f n s).0 x),
+  λ x. (c.in_ok-right.ensures.fits p f n s).1 ((c.in_ok-left.ensures.fits p f n s).1 x),
 )
 
 pub returns-clause-state : goal.returns-clause-state

@@ -1,0 +1,4 @@
+pub mod EdgeLemmas
+pub mod DrawnLemmas
+pub mod GroupStages
+pub mod VerdictLemmas

@@ -1,0 +1,14 @@
+-- What a tree has used up whose bound stays below the cost.
+use Rattle.std.specs.Prelude.{◌≡◌, ◌⊎◌, ℕ, ℤ}
+use Rattle.agg_model.specs.Problem.{Problem}
+use Rattle.row_laws.specs.Values.{Allowed}
+use Rattle.row_laws.specs.Leaves.{IsRoot}
+use Rattle.row_laws.specs.Trees.{split_count}
+use Rattle.row_laws.specs.declared.bound.Bound.TheVariants.{Least}
+use Rattle.row_laws.specs.declared.leaf.Leaf.{Leaf}
+use Rattle.row_laws.specs.declared.tree.Tree.{Tree}
+use Rattle.branch_bound.specs.Trees.{IsDeep}
+
+-- the tree has exactly n splits, or each of its leaves of that bound stands at the greatest depth
+abbrev pub IsUsedUp : Problem → ℕ → ℤ → Tree Leaf → Type 0
+IsUsedUp p n b tree = (split_count tree ≡ n) ⊎ ((allowed : Allowed) × IsRoot p allowed × IsDeep p (Least b) tree allowed 0)

@@ -1,7 +1,0 @@
-use Rattle.std.proofs.Common.{◌<◌, ℕ}
-use Rattle.cert_text.specs.Lines.{IsMultiplier}
-use Rattle.row_laws.specs.Values.{row_in}
-use Rattle.root_answer.proofs.offered.has_multipliers.Given as goal
-
-abbrev pub invariant-loop-at : goal.invariant-loop-at
-invariant-loop-at l = (i : ℕ) → i < l.at → IsMultiplier (row_in l.rows i).1

@@ -1,0 +1,3 @@
+mod TreeSpellings
+mod SpellingLemmas
+mod StateLemmas
