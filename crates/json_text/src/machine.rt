@@ -137,12 +137,12 @@ impl Machine {
         ensures sound { KeepsBounds result self.new.mode }
     {
         match mode {
-            Mode::FirstItem if byte == b']' => self.close(),
+            Mode::FirstItem if byte == b']' => self.close(alloc),
             Mode::FirstItem | Mode::Value => self.begin(alloc, byte),
-            Mode::FirstName if byte == b'}' => self.close(),
+            Mode::FirstName if byte == b'}' => self.close(alloc),
             Mode::FirstName | Mode::Name => self.begin_text(byte),
             Mode::Colon => self.go_on(byte, b':', Mode::Value),
-            _ => self.behind(byte),
+            _ => self.behind(alloc, byte),
         }
     }
 
@@ -203,7 +203,7 @@ impl Machine {
     }
 
     // A byte behind a value.
-    fn behind(&mut self, byte: u8) -> Result<(), Stop>
+    fn behind(&mut self, alloc: Global, byte: u8) -> Result<(), Stop>
         ensures made { Makes result (behind byte (progress_of self.old)) (progress_of self.new) }
         ensures sound { KeepsBounds result self.new.mode }
     {
@@ -218,20 +218,20 @@ impl Machine {
             return Ok(());
         }
         if byte == b']' && in_list {
-            return self.close();
+            return self.close(alloc);
         }
         if byte == b'}' && in_members {
-            return self.close();
+            return self.close(alloc);
         }
         Err(Stop::Bad)
     }
 
     // A closing bracket or brace.
-    fn close(&mut self) -> Result<(), Stop>
+    fn close(&mut self, alloc: Global) -> Result<(), Stop>
         ensures made { Makes result (Ok (close (progress_of self.old))) (progress_of self.new) }
         ensures sound { KeepsBounds result self.new.mode }
     {
-        let tree = close(&mut self.stack);
+        let tree = close(alloc, &mut self.stack)?;
         self.end_value(tree)
     }
 

@@ -7,6 +7,9 @@ use crate::Tree;
 use agg_base::{NoMemory, Text};
 use std::alloc::Global;
 
+// How many values move to a block of their own where their list closes.
+const FEW: usize = 65_536;
+
 // A list or members that are open, with what has come of them.
 #[derive(Drop)]
 pub(crate) enum Frame {
@@ -124,25 +127,43 @@ pub(crate) fn add_name(stack: &mut Stack, name: Text) -> Result<(), NoMemory>
 
 // Closes the innermost, which is a value then.
 #[tactic(auto, using(crate::proofs::StackLemmas::frames_push))]
-pub(crate) fn close(stack: &mut Stack) -> Tree
-    ensures value { json_of result ≡ tree_of_first (stack_of stack.old) }
+pub(crate) fn close(alloc: Global, stack: &mut Stack) -> Result<Tree, NoMemory>
+    ensures value { IfOk result (λ tree. json_of tree ≡ tree_of_first (stack_of stack.old)) }
     ensures rest { stack_of stack.new ≡ drop 1 (stack_of stack.old) }
 {
     match stack.frames.pop() {
-        None => Tree::Null,
-        Some(frame) => tree_of(frame),
+        None => Ok(Tree::Null),
+        Some(frame) => tree_of(alloc, frame),
     }
 }
 
-// The list or members as a value.
-fn tree_of(frame: Frame) -> Tree
-    ensures { json_of result ≡ tree_of (opened_of frame) }
+// The list or members as a value, which takes no more memory than its items need.
+fn tree_of(alloc: Global, frame: Frame) -> Result<Tree, NoMemory>
+    ensures { IfOk result (λ tree. json_of tree ≡ tree_of (opened_of frame)) }
 {
     match frame {
-        Frame::List(items) => Tree::List(items),
-        Frame::Members(members) => Tree::Members(members),
-        Frame::Named(members, _name) => Tree::Members(members),
+        Frame::List(items) => Ok(Tree::List(fitted(alloc, items)?)),
+        Frame::Members(members) => Ok(Tree::Members(fitted(alloc, members)?)),
+        Frame::Named(members, _name) => Ok(Tree::Members(fitted(alloc, members)?)),
     }
+}
+
+// The same values in a block of their size. Few of them move to one of their own, so that theirs is free for the list that opens next; many
+// stay where they are, since there may be no memory for them twice.
+fn fitted<T: Drop>(alloc: Global, values: Vec<T>) -> Result<Vec<T>, NoMemory>
+    ensures { IfOk result (λ fitting. fitting.items ≡ values.items) }
+{
+    let mut values = values;
+    if values.len() == values.capacity() {
+        return Ok(values);
+    }
+    if values.len() > FEW {
+        values.shrink_to_fit();
+        return Ok(values);
+    }
+    let mut fitting = Vec::with_capacity(alloc, values.len())?;
+    fitting.append(&mut values)?;
+    Ok(fitting)
 }
 
 // The list or members with one more value.
