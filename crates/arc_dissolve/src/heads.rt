@@ -16,7 +16,7 @@ use plane_edge::{Point, Spot};
 use std::alloc::Global;
 
 // Whether the first shell has the lesser sum, or the same sum and the lesser first arc.
-fn goes_before(one: &Shell, other: &Shell) -> bool
+fn is_earlier(one: &Shell, other: &Shell) -> bool
     ensures before { result ≡ true → IsNoLater one.now other.now }
     ensures after { result ≡ false → IsNoLater other.now one.now }
 {
@@ -32,7 +32,7 @@ fn is_better(shells: &[Shell], at: usize, best: Option<usize>) -> bool
     ensures after { IfSome best (λ b. (d : Shell) → result ≡ false → IsNoLater (slice_index_or shells.now b d) (slice_index_or shells.now at d)) }
 {
     match best {
-        Some(best) => goes_before(&shells[at], &shells[best]),
+        Some(best) => is_earlier(&shells[at], &shells[best]),
         None => true,
     }
 }

@@ -59,6 +59,18 @@ fn three_rows_at_one_choice(rt: HostRuntime) -> Result<(), Fail> {
 }
 
 #[test]
+fn a_quarter_is_rounded_up(rt: HostRuntime) -> Result<(), Fail> {
+    let alloc = rt.alloc();
+    let problem = row(alloc)?;
+    let domains = Domains::whole(alloc, &problem)?;
+    // What is left is 1 at area 0, and nothing at the others and at the links.
+    let rows = rows(alloc, &[], &[(0, 0, &[0], 1)])?;
+    let value = worth(alloc, &costs(4, rows)?, &problem, &domains)?;
+    assert_eq!(rt; value, Ok(Bound::Least(1)));
+    Ok(())
+}
+
+#[test]
 fn totals_below_zero_are_rounded_up(rt: HostRuntime) -> Result<(), Fail> {
     let alloc = rt.alloc();
     let problem = row(alloc)?;
@@ -223,6 +235,17 @@ fn the_first_fault_of_two(rt: HostRuntime) -> Result<(), Fail> {
         let sum = costs(denominator, rows(alloc, borders, &[])?)?;
         assert_eq!(rt; sum.sound(&problem, &domains), Err(fault));
     }
+    Ok(())
+}
+
+#[test]
+fn void_mode_has_the_denominator_1(rt: HostRuntime) -> Result<(), Fail> {
+    let alloc = rt.alloc();
+    let problem = row(alloc)?;
+    let domains = Domains::whole(alloc, &problem)?;
+    let mut sum = voids(rows(alloc, &[(2, 0, 0, -1)], &[])?)?;
+    sum.denominator = 2;
+    assert_eq!(rt; sum.sound(&problem, &domains), Err(Unsound::Denominator));
     Ok(())
 }
 

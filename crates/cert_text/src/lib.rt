@@ -1,4 +1,4 @@
-//! The text of a certificate, and who writes it; its reader is to come.
+//! Certificates, their one text, and who writes it. `cert_reader` reads it.
 #![tactic(auto)]
 
 mod certificate;

@@ -78,7 +78,7 @@ fn first_fault(alloc: Global, areas: &[OddArea]) -> Result<(), CoverFault>
 }
 
 // The areas that count, checked.
-fn checked(alloc: Global, coverage: Coverage) -> Result<Checked, CoverFault>
+fn check_kept(alloc: Global, coverage: Coverage) -> Result<Checked, CoverFault>
     ensures areas { IfOk result (λ c. c.areas ≡ kept_of coverage.areas.items) }
     ensures passed { IfOk result (λ c. c.passed + length c.areas ≡ coverage.passed + length coverage.areas.items) }
     ensures frame { IfOk result (λ c. c.frame ≡ coverage.frame) }
@@ -121,5 +121,5 @@ pub fn check<W: Crew>(alloc: Global, coverage: Coverage, crew: &W) -> Result<Che
         (a b : ℕ) (s : Spot) → IsPlanarCover odds → IsOverlap odds a b s → IsErrAnd result IsOverlapOrMemory }
 {
     let _ = crew;
-    checked(alloc, coverage)
+    check_kept(alloc, coverage)
 }

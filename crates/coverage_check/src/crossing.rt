@@ -57,7 +57,7 @@ fn first_partner(edges: &[Edge], spans: &[Span], at: usize) -> Option<(usize, Sp
     let mut place = at + 1;
     while place < edges.len() {
         let f = &edges[place];
-        if begins_above(f, e) {
+        if is_beyond(f, e) {
             return None;
         }
         if let Some(spot) = meet_across(e, f, left, right) {
@@ -70,7 +70,7 @@ fn first_partner(edges: &[Edge], spans: &[Span], at: usize) -> Option<(usize, Sp
 
 // Whether `f` begins higher than `e` ends.
 #[inline]
-fn begins_above(f: &Edge, e: &Edge) -> bool
+fn is_beyond(f: &Edge, e: &Edge) -> bool
     ensures { result ≡ int_lt e.now.high.y f.now.low.y }
 {
     f.low.y > e.high.y

@@ -138,7 +138,7 @@ fn is_not_lower(p: &Piece, q: &Piece) -> bool
 }
 
 // Whether the row may follow those of the bank: it is of the level of the last one, and does not begin below it.
-fn may_follow(bank: &Bank, row: &Row) -> bool
+fn has_place_for(bank: &Bank, row: &Row) -> bool
     ensures { IsTrue result → All (λ r. r.last.low ≤ℤ row.now.last.low) bank.now.rows.items }
 {
     match bank.rows.last() {
@@ -198,7 +198,7 @@ fn no_bank(alloc: Global) -> Bank
 fn next_bank(alloc: Global, banks: &mut Vec<Bank>, bank: Bank, row: Row) -> Result<Bank, NoMemory>
     ensures { IfOk result (λ b. flat_map pieces_of_bank banks.new.items ++ pieces_of_bank b ≡ (flat_map pieces_of_bank banks.old.items ++ pieces_of_bank bank) ++ row.pieces.items) }
 {
-    if may_follow(&bank, &row) {
+    if has_place_for(&bank, &row) {
         taller(bank, row)
     } else {
         banks.push(bank)?;

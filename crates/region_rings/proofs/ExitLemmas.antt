@@ -12,7 +12,7 @@ use Rattle.plane_edge.specs.Order.{is_below}
 use Rattle.plane_edge.proofs.OrderLemmas.{same_points_equal, same_point_itself, point_irreflexive}
 use Rattle.region_rings.specs.declared.exit.Exit.{Exit}
 use Rattle.region_rings.specs.declared.way.Way.{Way}
-use Rattle.region_rings.specs.Exits.{right, aim_of, is_past, stands_before, exit_at, IsExitOf, AreExitsOf}
+use Rattle.region_rings.specs.Exits.{right, aim_of, is_past, is_met_before, exit_at, IsExitOf, AreExitsOf}
 use Rattle.region_rings.specs.Turning.{IsSomewhere, is_met_sooner}
 use Rattle.region_rings.specs.Ways.{other_end_of, way_at, tail_of}
 use Rattle.region_rings.proofs.StepLemmas.{below-one_way}
@@ -65,7 +65,7 @@ ahead_one_way p q a b h = go (is_same_point q p) (is_same_point p q) refl refl h
     go false true e f h = absurd (true≢false (sym (same_itself q p (sym (same_points_equal p q f))) ∙ e))
     go false false e f h = below-one_way p q h
 
-pub exit_order : IsStrictWeakOrder stands_before
+pub exit_order : IsStrictWeakOrder is_met_before
 exit_order = record {
   one_way = λ x y h. ahead_one_way (tail_of x.way) (tail_of y.way) (aim_of x.way) (aim_of y.way) h;
   chain = λ x y z h k. ahead_chain (tail_of x.way) (tail_of y.way) (tail_of z.way) (aim_of x.way) (aim_of y.way) (aim_of z.way) (way_somewhere x.way) (way_somewhere y.way) (way_somewhere z.way) h k;
@@ -122,9 +122,9 @@ made_exact edges leftward made x s m = (
       )),
 )
 
-pub exits_sorted : (edges : List Edge) (leftward : List Bool) (made sorted : List Exit) → length leftward ≡ length edges → AreMade edges leftward (length edges) made → IsPermutation made sorted → IsSortedBy stands_before sorted → AreExitsOf edges leftward sorted
+pub exits_sorted : (edges : List Edge) (leftward : List Bool) (made sorted : List Exit) → length leftward ≡ length edges → AreMade edges leftward (length edges) made → IsPermutation made sorted → IsSortedBy is_met_before sorted → AreExitsOf edges leftward sorted
 exits_sorted edges leftward made sorted s m moved up = record {
-  ordered = λ i j d l h. sorted_far stands_before exit_order sorted up i j d (omega arith) h;
+  ordered = λ i j d l h. sorted_far is_met_before exit_order sorted up i j d (omega arith) h;
   exact = λ x. (
     (λ c. (made_exact edges leftward made x s m).0 (Contains-permutation sorted made x (IsPermutation-sym made sorted moved) c)),
     (λ t. Contains-permutation made sorted x moved ((made_exact edges leftward made x s m).1 t)),
@@ -141,18 +141,18 @@ module _ (edges : List Edge) (leftward : List Bool) (exits : List Exit) (a : Are
   exit_read k x l e = subst (λ (y : Exit). IsExitOf edges leftward y) (sym e) (exit_there k x l)
 
   -- a later exit does not stand before an earlier one
-  pub not_ahead : (i j : ℕ) (d : Exit) → i ≤ j → j < length exits → stands_before (get_or exits j d) (get_or exits i d) ≡ false
+  pub not_ahead : (i j : ℕ) (d : Exit) → i ≤ j → j < length exits → is_met_before (get_or exits j d) (get_or exits i d) ≡ false
   not_ahead i j d h l = go (cases i j h)
     where
       cases : (i j : ℕ) → i ≤ j → (i ≡ j) ⊎ (i < j)
       cases i j h = grind arith
 
-      itself : (x : Exit) (b : Bool) → stands_before x x ≡ b → stands_before x x ≡ false
+      itself : (x : Exit) (b : Bool) → is_met_before x x ≡ b → is_met_before x x ≡ false
       itself x true e = exit_order.one_way x x e
       itself x false e = e
 
-      go : (i ≡ j) ⊎ (i < j) → stands_before (get_or exits j d) (get_or exits i d) ≡ false
-      go (inl e) = subst (λ n. stands_before (get_or exits j d) (get_or exits n d) ≡ false) (sym e) (itself (get_or exits j d) (stands_before (get_or exits j d) (get_or exits j d)) refl)
+      go : (i ≡ j) ⊎ (i < j) → is_met_before (get_or exits j d) (get_or exits i d) ≡ false
+      go (inl e) = subst (λ n. is_met_before (get_or exits j d) (get_or exits n d) ≡ false) (sym e) (itself (get_or exits j d) (is_met_before (get_or exits j d) (get_or exits j d)) refl)
       go (inr m) = a.ordered i j d m l
 
   pub tails_rise : (i j : ℕ) (d : Exit) → i ≤ j → j < length exits → is_below (tail_of (get_or exits j d).way) (tail_of (get_or exits i d).way) ≡ false

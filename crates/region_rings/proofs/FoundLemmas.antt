@@ -10,7 +10,7 @@ use Rattle.plane_edge.specs.Line.{is_end_of}
 use Rattle.plane_edge.proofs.OrderLemmas.{same_points_equal, same_point_itself, point_irreflexive}
 use Rattle.region_rings.specs.declared.exit.Exit.{Exit}
 use Rattle.region_rings.specs.declared.way.Way.{Way}
-use Rattle.region_rings.specs.Exits.{right, aim_of, is_past, stands_before, exit_at, IsExitOf, AreExitsOf, IsWalkedAt, AreWalkedFrom, AreLinksOf, IsFirstFree, IsFoundAt, AreNotBelow, AreAllWalked}
+use Rattle.region_rings.specs.Exits.{right, aim_of, is_past, is_met_before, exit_at, IsExitOf, AreExitsOf, IsWalkedAt, AreWalkedFrom, AreLinksOf, IsFirstFree, IsFoundAt, AreNotBelow, AreAllWalked}
 use Rattle.region_rings.specs.Spokes.{IsEndAt}
 use Rattle.region_rings.specs.Turning.{aim, IsSomewhere, is_first_by, is_met_sooner}
 use Rattle.region_rings.specs.Walks.{Walk, along, reaching, IsOpenAt, IsTakenFirst}
@@ -265,10 +265,10 @@ module _ (edges : List Edge) (leftward : List Bool) (exits : List Exit) (a : Are
     past_is : (u : ℤ × ℤ) (v : Way) → tail_of v ≡ at → is_past at u v ≡ is_met_sooner right u (aim_of v)
     past_is u v t = ap (λ b. if b then is_met_sooner right u (aim_of v) else is_below at (tail_of v)) (same_itself (tail_of v) at t)
 
-    before_is : (x y : Exit) → tail_of x.way ≡ at → tail_of y.way ≡ at → stands_before x y ≡ is_met_sooner right (aim_of x.way) (aim_of y.way)
+    before_is : (x y : Exit) → tail_of x.way ≡ at → tail_of y.way ≡ at → is_met_before x y ≡ is_met_sooner right (aim_of x.way) (aim_of y.way)
     before_is x y s t = ap (λ b. if b then is_met_sooner right (aim_of x.way) (aim_of y.way) else is_below (tail_of x.way) (tail_of y.way)) (same_itself (tail_of y.way) (tail_of x.way) (t ∙ sym s))
 
-    not_sooner : (u : ℤ × ℤ) (x y : Exit) → IsSomewhere u → tail_of x.way ≡ at → tail_of y.way ≡ at → ((is_past at u x.way ≡ false) × (is_past at u y.way ≡ true)) ⊎ ((is_past at u x.way ≡ is_past at u y.way) × (stands_before x y ≡ false)) → is_met_sooner u (aim_of x.way) (aim_of y.way) ≡ false
+    not_sooner : (u : ℤ × ℤ) (x y : Exit) → IsSomewhere u → tail_of x.way ≡ at → tail_of y.way ≡ at → ((is_past at u x.way ≡ false) × (is_past at u y.way ≡ true)) ⊎ ((is_past at u x.way ≡ is_past at u y.way) × (is_met_before x y ≡ false)) → is_met_sooner u (aim_of x.way) (aim_of y.way) ≡ false
     not_sooner u x y n s t h =
         sooner_from right u (aim_of x.way) (aim_of y.way) right_somewhere n (way_somewhere x.way) (way_somewhere y.way)
         ∙ go (is_met_sooner right u (aim_of x.way)) (is_met_sooner right u (aim_of y.way)) (is_met_sooner right (aim_of x.way) (aim_of y.way)) (past_is u x.way s) (past_is u y.way t) (before_is x y s t) h
@@ -282,8 +282,8 @@ module _ (edges : List Edge) (leftward : List Bool) (exits : List Exit) (a : Are
         first_no false true m p q b e f g (inr h) = refl
         first_no false false m p q b e f g (inr h) = sym g ∙ h.1
 
-        go : (i j m : Bool) → is_past at u x.way ≡ i → is_past at u y.way ≡ j → stands_before x y ≡ m → ((is_past at u x.way ≡ false) × (is_past at u y.way ≡ true)) ⊎ ((is_past at u x.way ≡ is_past at u y.way) × (stands_before x y ≡ false)) → is_first_by i j m ≡ false
-        go i j m e f g h = first_no i j m (is_past at u x.way) (is_past at u y.way) (stands_before x y) e f g h
+        go : (i j m : Bool) → is_past at u x.way ≡ i → is_past at u y.way ≡ j → is_met_before x y ≡ m → ((is_past at u x.way ≡ false) × (is_past at u y.way ≡ true)) ⊎ ((is_past at u x.way ≡ is_past at u y.way) × (is_met_before x y ≡ false)) → is_first_by i j m ≡ false
+        go i j m e f g h = first_no i j m (is_past at u x.way) (is_past at u y.way) (is_met_before x y) e f g h
 
     module _ (u : ℤ × ℤ) (n : IsSomewhere u) (split : ℕ) (s : IsSplitAt exits at u split) (from i : ℕ) (f : IsFoundAt exits w at from i) (v : Way) where
       d0 : Exit
@@ -291,7 +291,7 @@ module _ (edges : List Edge) (leftward : List Bool) (exits : List Exit) (a : Are
 
       -- the exit of each open edge that leads away stands after the found one, or is met later
       abbrev StandsAfter : ℕ → Type 0
-      StandsAfter j = ((is_past at u (get_or exits j d0).way ≡ false) × (is_past at u (get_or exits f.place d0).way ≡ true)) ⊎ ((is_past at u (get_or exits j d0).way ≡ is_past at u (get_or exits f.place d0).way) × (stands_before (get_or exits j d0) (get_or exits f.place d0) ≡ false))
+      StandsAfter j = ((is_past at u (get_or exits j d0).way ≡ false) × (is_past at u (get_or exits f.place d0).way ≡ true)) ⊎ ((is_past at u (get_or exits j d0).way ≡ is_past at u (get_or exits f.place d0).way) × (is_met_before (get_or exits j d0) (get_or exits f.place d0) ≡ false))
 
       taken_by : ((k : ℕ) (h : HasExit edges leftward exits k v) → IsOpenAt edges w k at → tail_of (get_or exits h.place d0).way ≡ at → StandsAfter h.place) → (k : ℕ) → IsOpenAt edges w k at → is_taken_before at u (way_at edges leftward k v) (way_at edges leftward i v) ≡ false
       taken_by after k o = go (is_from (way_at edges leftward k v) at) refl

@@ -22,8 +22,8 @@ abbrev pub is_past : Point → ℤ × ℤ → Way → Bool
 is_past p a w = (if is_from w p then is_met_sooner right a (aim_of w) else is_below p (tail_of w))
 
 -- the first exit stands before the second
-abbrev pub stands_before : Exit → Exit → Bool
-stands_before x y = is_past (tail_of x.way) (aim_of x.way) y.way
+abbrev pub is_met_before : Exit → Exit → Bool
+is_met_before x y = is_past (tail_of x.way) (aim_of x.way) y.way
 
 -- the way of the edge of that number
 abbrev pub exit_at : List Edge → List Bool → ℕ → Exit → Exit
@@ -36,7 +36,7 @@ pub record IsExitOf (edges : List Edge) (leftward : List Bool) (x : Exit) : Type
 
 -- the exits are the ways of all edges, none standing before one ahead of it
 pub record AreExitsOf (edges : List Edge) (leftward : List Bool) (exits : List Exit) : Type 0 where
-  pub ordered : AllPairs (λ x y. stands_before y x ≡ false) exits
+  pub ordered : AllPairs (λ x y. is_met_before y x ≡ false) exits
   pub exact : (x : Exit) → Contains exits x ↔ IsExitOf edges leftward x
 
 -- the edge of the exit at that place is walked

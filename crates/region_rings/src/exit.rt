@@ -2,7 +2,7 @@
 ghost use Rattle.std.specs.Prelude.{◌≡◌, ℕ, ◌<◌, length, slice_index_or, IfOk};
 ghost use Rattle.region_rings.specs.declared.exit.Exit.{Exit};
 ghost use Rattle.std.specs.Ordering.{is_lt};
-ghost use Rattle.region_rings.specs.Exits.{right, aim_of, is_past, stands_before, exit_at, AreExitsOf};
+ghost use Rattle.region_rings.specs.Exits.{right, aim_of, is_past, is_met_before, exit_at, AreExitsOf};
 ghost use Rattle.region_rings.specs.Turning.{parts_of};
 ghost use Rattle.region_rings.specs.Ways.{way_at};
 ghost use Rattle.region_rings.specs.declared.way.Way.{Way};
@@ -49,19 +49,19 @@ pub fn is_past(way: &Way, at: &Point, aim: &Heading) -> bool
 }
 
 // Whether the first exit stands before the second.
-fn stands_before(one: &Exit, other: &Exit) -> bool
-    ensures { result ≡ stands_before one.now other.now }
+fn is_met_before(one: &Exit, other: &Exit) -> bool
+    ensures { result ≡ is_met_before one.now other.now }
 {
     is_past(&other.way, &one.way.tail(), &aim_of(&one.way))
 }
 
 // Which of two exits stands first.
 fn compare(one: &Exit, other: &Exit) -> Ordering
-    ensures { is_lt result ≡ stands_before one.now other.now }
+    ensures { is_lt result ≡ is_met_before one.now other.now }
 {
-    if stands_before(one, other) {
+    if is_met_before(one, other) {
         Ordering::Less
-    } else if stands_before(other, one) {
+    } else if is_met_before(other, one) {
         Ordering::Greater
     } else {
         Ordering::Equal

@@ -37,13 +37,13 @@ pub(crate) fn read_arcs(
     let mut arcs = Vec::with_capacity(alloc, parts.len())?;
     for at in 0..parts.len() {
         let arc = read_arc(alloc, relative, at as u32, &parts[at])?;
-        arcs.push(thinned(arc))?;
+        arcs.push(without_repeats(arc))?;
     }
     Ok(arcs)
 }
 
 // The points of an arc without those that are the same as the one before.
-fn thinned(arc: Vec<Point>) -> Vec<Point>
+fn without_repeats(arc: Vec<Point>) -> Vec<Point>
     ensures { IsThinned arc.items result.items }
 {
     let mut thin = arc;

@@ -6,11 +6,11 @@ use Rattle.coverage_check.proofs.PartnerLemmas.{is_above, none_higher, none_more
 use Rattle.coverage_check.proofs.SpanLemmas.{none_past}
 use Rattle.coverage_check.proofs.crossing.first_partner.Goals as goal
 
-pub returns-then-begins_above-clause-none : goal.returns-then-begins_above-clause-none
-returns-then-begins_above-clause-none c =
+pub returns-then-is_beyond-clause-none : goal.returns-then-is_beyond-clause-none
+returns-then-is_beyond-clause-none c =
     none_higher c.args.edges.now c.args.at c.loop-place.place c.index-edges-at.result c.index-edges-place.result c.requires.rising (omega arith) c.loop-place.invariant.1
     (read_at c.args.edges.now c.args.at c.index-edges-at.result c.requires.within c.index-edges-at.is) (read_at c.args.edges.now c.loop-place.place c.index-edges-place.result (omega arith) c.index-edges-place.is)
-    (is_above c.index-edges-at.result.high.y c.index-edges-place.result.low.y (sym c.begins_above.ensures ∙ c.if-begins_above.true))
+    (is_above c.index-edges-at.result.high.y c.index-edges-place.result.low.y (sym c.is_beyond.ensures ∙ c.if-is_beyond.true))
 
 pub meet_across-requires-clause-differ : goal.meet_across-requires-clause-differ
 meet_across-requires-clause-differ c =

@@ -28,7 +28,7 @@ loop-at-preserved c =
     let old = c.loop-at.arcs.items in
     let new = c.push.new.self.items in
     record {
-      arcs = arcs_more c.args.relative (list_of (take i xs)) (list_of (take (i + 1) xs)) (lists_of old) (lists_of new) (json_of c.index-parts-at.result) c.in_ok-arc.arc.items c.thinned.result.items c.loop-at.invariant.arcs
-          c.in_ok-arc.ensures.found c.thinned.ensures (listed_more xs i c.index-parts-at.result (omega arith) c.index-parts-at.is) (pushed_lists old new c.thinned.result c.in_ok-push.ensures.items);
-      count = ap (λ (vs : List (Vec Point Global)). length vs) c.in_ok-push.ensures.items ∙ length_push old c.thinned.result ∙ ap (λ (n : ℕ). n + 1) c.loop-at.invariant.count;
+      arcs = arcs_more c.args.relative (list_of (take i xs)) (list_of (take (i + 1) xs)) (lists_of old) (lists_of new) (json_of c.index-parts-at.result) c.in_ok-arc.arc.items c.without_repeats.result.items c.loop-at.invariant.arcs
+          c.in_ok-arc.ensures.found c.without_repeats.ensures (listed_more xs i c.index-parts-at.result (omega arith) c.index-parts-at.is) (pushed_lists old new c.without_repeats.result c.in_ok-push.ensures.items);
+      count = ap (λ (vs : List (Vec Point Global)). length vs) c.in_ok-push.ensures.items ∙ length_push old c.without_repeats.result ∙ ap (λ (n : ℕ). n + 1) c.loop-at.invariant.count;
     }

@@ -3,7 +3,7 @@ use Rattle.std.proofs.lemmas.Int.{ints}
 use Rattle.edge_rows.specs.declared.row.Row.{Row}
 use Rattle.edge_rows.specs.Banks.{IsBefore}
 use Rattle.edge_rows.proofs.BankLemmas.{all_low}
-use Rattle.edge_rows.proofs.laying.may_follow.Goals as goal
+use Rattle.edge_rows.proofs.laying.has_place_for.Goals as goal
 
 not_lower : (b r : Bool) (a z : ℤ) → r ≡ (b && int_le a z) → IsTrue r → a ≤ℤ z
 not_lower b r a z h k = grind (arith, ints)

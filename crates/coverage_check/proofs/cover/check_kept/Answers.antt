@@ -2,7 +2,7 @@ use Rattle.std.proofs.Common.{◌≡◌, ◌∙◌, ap, subst, arith, List, leng
 use Rattle.coverage_check.specs.Cover.{IsPlanarCover, IsDisjointCover}
 use Rattle.coverage_check.specs.Kept.{OddArea, kept_of, odds_of, odd_edge_count}
 use Rattle.coverage_check.proofs.CheckLemmas.{kept_short, kept_edges}
-use Rattle.coverage_check.proofs.cover.checked.Goals as goal
+use Rattle.coverage_check.proofs.cover.check_kept.Goals as goal
 
 pub first_fault-requires-clause-few : goal.first_fault-requires-clause-few
 first_fault-requires-clause-few c =

@@ -4,7 +4,7 @@ use Rattle.std.proofs.lemmas.List.Filters.{dedup_is}
 use Rattle.plane_edge.specs.declared.point.Point.{Point}
 use Rattle.topo_reader.specs.Thinned.{IsThinned}
 use Rattle.topo_reader.proofs.ThinLemmas.{thin_dedup, is_same}
-use Rattle.topo_reader.proofs.arcs.thinned.Goals as goal
+use Rattle.topo_reader.proofs.arcs.without_repeats.Goals as goal
 
 abbrev same : Point → Point → Bool
 same q p = int_eq q.y p.y && int_eq q.x p.x
