@@ -33,7 +33,7 @@ impl Domains {
     {
         let count = problem.areas();
         let set = all_below(problem.classes());
-        let sets = repeated(alloc, set, count)?;
+        let sets = copies(alloc, set, count)?;
         Ok(Domains { sets })
     }
 
@@ -144,7 +144,7 @@ fn is_single(set: u64) -> bool
 }
 
 // A set for each area.
-fn repeated(alloc: Global, set: u64, areas: u32) -> Result<Vec<u64>, NoMemory>
+fn copies(alloc: Global, set: u64, areas: u32) -> Result<Vec<u64>, NoMemory>
     ensures { IfOk result (λ sets. sets.items ≡ replicate areas set) }
 {
     Ok(vec![in alloc; set; areas as usize]?)

@@ -1,2 +1,3 @@
 pub mod LabelLemmas
 pub mod TallyLemmas
+pub mod WalkLemmas

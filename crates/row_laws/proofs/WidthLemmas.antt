@@ -1,6 +1,6 @@
 -- Where every number fits, the value in 128 bits is the value over whole numbers.
-use Rattle.std.proofs.Common.{◌≡◌, ℕ, zero, suc, Bool, true, false, List, [], ◌∷◌, length, refl, ap, sym, ◌∙◌, arith, Some, Result, Ok, Err}
-use Rattle.std.specs.Prelude.{ℤ, pos, ◌+ℤ◌, ◌-ℤ◌, int_le}
+use Rattle.std.proofs.Common.{◌≡◌, ℕ, zero, suc, Bool, true, false, List, [], ◌∷◌, length, refl, ap, sym, ◌∙◌, arith, subst, Some, Result, Ok, Err}
+use Rattle.std.specs.Prelude.{ℤ, pos, ◌+ℤ◌, ◌-ℤ◌, ◌<ℤ◌, int_le}
 use Rattle.std.proofs.lemmas.Int.{ints}
 use mathlib.Core.Path.{fun_ext}
 use Rattle.whole_ring.specs.Sums.{sum_below, when}
@@ -13,7 +13,9 @@ use Rattle.row_laws.specs.declared.bound.Bound.{Bound}
 use Rattle.row_laws.specs.declared.bound.Bound.TheVariants.{Least, Void}
 use Rattle.row_laws.specs.declared.bound.Entry.{Entry}
 use Rattle.row_laws.specs.declared.bound.Entry.TheVariants.{TotalArea, TotalLink}
+use Rattle.row_laws.specs.declared.bound.Weak.{Weak}
 use Rattle.row_laws.specs.declared.bound.Weak.TheVariants.{NotVoid}
+use Rattle.row_laws.specs.Laws.{WidthLaw}
 
 err_ok : {A E P : Type 0} (r : Result A E) (e : E) (x : A) → r ≡ Err e → r ≡ Ok x → P
 err_ok r e x h k = cc
@@ -84,19 +86,56 @@ with_links_is f n (Ok t) y w k h =
     let sum = add_up_is (λ l. TotalLink l) (link_term_at f) t n w h in
     omega (arith, ints)
 
+-- where the totals fit, the total is the total
+total_is : (p : Problem) (allowed : Allowed) (s : RowSum) (f : Place → ℤ) (w : ℤ) → f ≡ left_at p s
+    → with_links f (length p.links) (add_up (λ v. TotalArea v) (area_term_at p allowed f) (pos 0) (areas p)) ≡ Ok w → w ≡ total p allowed s
+total_is p allowed s f w is e =
+    let sum = with_links_is f (length p.links) _ (sum_below (areas p) (area_term_at p allowed f)) w
+    (λ t e'. add_up_is (λ v. TotalArea v) (area_term_at p allowed f) (pos 0) (areas p) t e' ∙ omega (arith, ints)) e in
+    sum ∙ ap (λ (g : Place → ℤ). sum_below (areas p) (area_term_at p allowed g) +ℤ sum_below (length p.links) (link_term_at g)) is
+
 answer_at_is : (p : Problem) (allowed : Allowed) (s : RowSum) (b : Bound) (r : Result (Place → ℤ) Place) → ((f : Place → ℤ) → r ≡ Ok f → f ≡ left_at p s) → answer_at p allowed s r ≡ Ok b → value_of p allowed s ≡ Some b
 unfolding value_of
 answer_at_is p allowed s b (Err place) k h = cc
 answer_at_is p allowed s b (Ok f) k h =
-    let is : f ≡ left_at p s = k f refl in
-    finish_is s.void s.denominator _ b (total p allowed s) h
-    (λ w e.
-    let sum = with_links_is f (length p.links) _ (sum_below (areas p) (area_term_at p allowed f)) w
-    (λ t e'. add_up_is (λ v. TotalArea v) (area_term_at p allowed f) (pos 0) (areas p) t e' ∙ omega (arith, ints)) e in
-    sum ∙ ap (λ (g : Place → ℤ). sum_below (areas p) (area_term_at p allowed g) +ℤ sum_below (length p.links) (link_term_at g)) is)
+    finish_is s.void s.denominator _ b (total p allowed s) h (λ w e. total_is p allowed s f w (k f refl) e)
 
 pub answer_is : (p : Problem) (allowed : Allowed) (s : RowSum) (b : Bound) → answer p allowed s ≡ Ok b → value_of p allowed s ≡ Some b
 unfolding answer
 answer_is p allowed s b h =
     answer_at_is p allowed s b (run (start_at p s) (moves p s.rows))
     (λ f e. fun_ext (λ at. run_is (moves p s.rows) (start_at p s) f e at)) h
+
+-- ---- a void sum that is worth nothing
+
+err_same : (r : Result Bound Weak) (x y : ℤ) → r ≡ Err (NotVoid x) → r ≡ Err (NotVoid y) → x ≡ y
+err_same r x y h k = cc
+
+finish_not : (void : Bool) (q : ℕ) (r : Result ℤ Entry) (t y : ℤ) → finish void q r ≡ Err (NotVoid t) → ((w : ℤ) → r ≡ Ok w → w ≡ y) → (void ≡ true) × (y ≡ t) × (t <ℤ pos 1)
+finish_not void q (Err e) t y h k = cc
+finish_not true q (Ok w) t y h k =
+    let is = k w refl in
+    by_test (int_le (pos 1) w) _
+    (λ yes'.
+    let whole : finish true q (Ok w) ≡ Ok Void = rw yes' refl in
+    err_ok (finish true q (Ok w)) (NotVoid t) Void h whole)
+    (λ no'.
+    let none : finish true q (Ok w) ≡ Err (NotVoid w) = rw no' refl in
+    let same : w ≡ t = err_same (finish true q (Ok w)) w t none h in
+    let low : w <ℤ pos 1 = grind (arith, ints) in
+    (refl, sym is ∙ same, subst (λ (x : ℤ). x <ℤ pos 1) same low))
+finish_not false q (Ok w) t y h k = cc
+
+answer_at_not : (p : Problem) (allowed : Allowed) (s : RowSum) (t : ℤ) (r : Result (Place → ℤ) Place) → ((f : Place → ℤ) → r ≡ Ok f → f ≡ left_at p s) → answer_at p allowed s r ≡ Err (NotVoid t) → (s.void ≡ true) × (total p allowed s ≡ t) × (t <ℤ pos 1)
+answer_at_not p allowed s t (Err place) k h = cc
+answer_at_not p allowed s t (Ok f) k h =
+    finish_not s.void s.denominator _ t (total p allowed s) h (λ w e. total_is p allowed s f w (k f refl) e)
+
+answer_not : (p : Problem) (allowed : Allowed) (s : RowSum) (t : ℤ) → answer p allowed s ≡ Err (NotVoid t) → (s.void ≡ true) × (total p allowed s ≡ t) × (t <ℤ pos 1)
+unfolding answer
+answer_not p allowed s t h =
+    answer_at_not p allowed s t (run (start_at p s) (moves p s.rows))
+    (λ f e. fun_ext (λ at. run_is (moves p s.rows) (start_at p s) f e at)) h
+
+pub width_law : WidthLaw
+width_law p allowed s = (λ b h. answer_is p allowed s b h, λ t h. answer_not p allowed s t h)

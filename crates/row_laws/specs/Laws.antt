@@ -1,10 +1,11 @@
 -- The laws that this crate proves.
-use Rattle.std.specs.Prelude.{◌≡◌, pos, ◌≤ℤ◌, Ok}
+use Rattle.std.specs.Prelude.{◌≡◌, true, ℤ, pos, ◌≤ℤ◌, ◌<ℤ◌, Ok, Err, Some}
 use Rattle.agg_model.specs.Problem.{Problem, Grouping, IsProblem, IsFeasible, areas}
 use Rattle.row_laws.specs.declared.row.Row.{Row}
 use Rattle.row_laws.specs.declared.bound.Bound.{Bound}
+use Rattle.row_laws.specs.declared.bound.Weak.TheVariants.{NotVoid}
 use Rattle.row_laws.specs.Rows.{row_at, IsInForm}
-use Rattle.row_laws.specs.Values.{RowSum, Allowed, IsInside, IsSoundSum}
+use Rattle.row_laws.specs.Values.{RowSum, Allowed, IsInside, IsSoundSum, total, value_of}
 use Rattle.row_laws.specs.Trees.{LeafLaw}
 use Rattle.row_laws.specs.Leaves.{IsSoundLeaf, leaf_answer, IsRoot}
 use Rattle.row_laws.specs.Bounds.{HoldsInside}
@@ -15,6 +16,12 @@ use Rattle.row_laws.specs.Fixed.{AreSingle, fixed_value, kind_in}
 abbrev pub RowLaw : Type 0
 RowLaw =
     (p : Problem) (g : Grouping) (row : Row) → IsProblem p → IsFeasible p g → IsInForm p row → pos 0 ≤ℤ row_at p g row
+
+-- where every number fits in 128 bits, the value is that over numbers without a bound; where void mode has none, the total is below 1, and named
+abbrev pub WidthLaw : Type 0
+WidthLaw =
+    (p : Problem) (allowed : Allowed) (s : RowSum)
+    → ((b : Bound) → answer p allowed s ≡ Ok b → value_of p allowed s ≡ Some b) × ((t : ℤ) → answer p allowed s ≡ Err (NotVoid t) → (s.void ≡ true) × (total p allowed s ≡ t) × (t <ℤ pos 1))
 
 -- the value of a sound sum of rows holds
 abbrev pub SumLaw : Type 0

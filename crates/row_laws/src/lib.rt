@@ -8,7 +8,7 @@ mod sum;
 mod tree;
 
 ghost use Rattle.row_laws.specs.FirstSums.{PlainLaw, VoidLaw};
-ghost use Rattle.row_laws.specs.Laws.{RowLaw, SumLaw, FixedLaw, LeavesLaw, RootLaw};
+ghost use Rattle.row_laws.specs.Laws.{RowLaw, WidthLaw, SumLaw, FixedLaw, LeavesLaw, RootLaw};
 
 pub use bound::{Bound, Entry, Unsound, Weak};
 pub use leaf::Leaf;
@@ -20,6 +20,13 @@ pub use tree::{Tree, depth, splits};
 #[tactic(auto, using(crate::proofs::RowLemmas::row_law))]
 pub fn row_law()
     ensures { RowLaw }
+{}
+
+/// Where every number of a sum fits in 128 bits, its value is the one over numbers without a bound. A void sum that is worth nothing names its
+/// total, which is below 1.
+#[tactic(auto, using(crate::proofs::WidthLemmas::width_law))]
+pub fn width_law()
+    ensures { WidthLaw }
 {}
 
 /// No feasible grouping inside the domains costs less than the value of a sound sum of rows, and where that value is void there is none.
