@@ -6,18 +6,19 @@ use Rattle.std.proofs.lemmas.Int.{ints}
 use Rattle.std.proofs.lemmas.Bool.{cases_lt}
 use Rattle.std.proofs.lemmas.Bool.Decides.{Decides-eqb}
 use Rattle.agg_base.specs.declared.limits.TheConstants.{DEPTH}
-use Rattle.agg_model.specs.Problem.{Problem, IsProblem, areas}
+use Rattle.agg_model.specs.Problem.{Problem, Grouping, IsProblem, IsFeasible, areas, class_at}
 use Rattle.row_laws.specs.Values.{Allowed, RowSum}
 use Rattle.row_laws.specs.Fixed.{IsSingle, AreSingle}
-use Rattle.row_laws.specs.Leaves.{IsSoundLeaf, leaf_answer}
+use Rattle.row_laws.specs.Leaves.{IsSoundLeaf, leaf_answer, IsRoot}
 use Rattle.row_laws.specs.Trees.{only, without, HasOther, lesser_bound, lesser_of, bound_in, IsSoundTree, bound_of, split_count}
 use Rattle.row_laws.specs.declared.bound.Bound.{Bound}
 use Rattle.row_laws.specs.declared.bound.Bound.TheVariants.{Least, Void}
 use Rattle.row_laws.specs.declared.leaf.Leaf.{Leaf}
 use Rattle.row_laws.specs.declared.tree.Tree.{Tree, Leaf as LeafNode, Split'}
 use Rattle.row_laws.proofs.Tests.{by_test, clash}
+use Rattle.row_laws.proofs.LeafLemmas.{root_law}
 use Rattle.bound_rows.specs.Offers.{IsAtMost}
-use Rattle.branch_bound.specs.Trees.{IsKept, IsDeep}
+use Rattle.branch_bound.specs.Trees.{no_parent, IsKept, IsDeep}
 use Rattle.branch_bound.specs.Outcomes.{IsWithin}
 use Rattle.branch_bound.specs.Enough.{HasEnough}
 
@@ -113,12 +114,16 @@ count_two ok k j n h i t u ne =
     let other = count_some (less ok k) j n i (less_same ok k j (apart j k ne) ∙ u) in
     omega arith
 
-count_all : (ok : ℕ → Bool) (n : ℕ) → ((k : ℕ) → k < n → ok k ≡ true) → count_below ok n ≡ n
-count_all ok zero all = refl
-count_all ok (suc n) all =
-    let before = count_all ok n (λ k h. all k (omega arith)) in
-    let here = bit_true (ok n) (all n (omega arith)) in
+count_most : (ok : ℕ → Bool) (n : ℕ) → count_below ok n ≤ n
+count_most ok zero = omega arith
+count_most ok (suc n) =
+    let before = count_most ok n in
+    let here = bit_most (ok n) in
     omega arith
+  where
+    bit_most : (b : Bool) → bit b ≤ 1
+    bit_most true = omega arith
+    bit_most false = omega arith
 
 one_passes : (ok : ℕ → Bool) (n k : ℕ) → k < n → ok k ≡ true → count_below ok n ≤ 1 → IsSingle ok n
 one_passes ok n k h t few = (
@@ -185,11 +190,18 @@ product_one (suc n) g some few u h =
       | inr most ↦ (let e : n ≡ u = omega arith in subst (λ (z : ℕ). g z ≤ 1) e (omega arith))
     ]
 
-product_power : (n x : ℕ) (g : ℕ → ℕ) → ((u : ℕ) → u < n → g u ≡ x) → product n g ≡ x ^ n
-product_power zero x g same = sym (pow-zero x)
-product_power (suc n) x g same =
-    let before = product_power n x g (λ u i. same u (omega arith)) in
-    rw (before, same n (omega arith)) (sym (pow-suc x n))
+product_most : (n x : ℕ) (g : ℕ → ℕ) → ((u : ℕ) → u < n → g u ≤ x) → product n g ≤ x ^ n
+product_most zero x g most = (let one = pow-zero x in omega arith)
+product_most (suc n) x g most =
+    let before = times_most (product n g) (x ^ n) (g n) (product_most n x g (λ u i. most u (omega arith))) in
+    let here = times_most (g n) x (x ^ n) (most n (omega arith)) in
+    let turned = mul_comm (g n) (x ^ n) in
+    let turned_too = mul_comm x (x ^ n) in
+    let next = pow-suc x n in
+    omega arith
+  where
+    times_most : (a b c : ℕ) → a ≤ b → a * c ≤ b * c
+    times_most a b c h = grind arith
 
 total_same : (n : ℕ) (g h : ℕ → ℕ) → ((u : ℕ) → u < n → h u ≡ g u) → total n h ≡ total n g
 total_same zero g h same = refl
@@ -220,11 +232,11 @@ total_none (suc n) g none u h =
       | inr most ↦ (let e : n ≡ u = omega arith in subst (λ (z : ℕ). g z ≡ 0) e (omega arith))
     ]
 
-total_times : (n x : ℕ) (g : ℕ → ℕ) → ((u : ℕ) → u < n → g u ≡ x) → total n g ≡ n * x
-total_times zero x g same = omega arith
-total_times (suc n) x g same =
-    let before = total_times n x g (λ u i. same u (omega arith)) in
-    let here = same n (omega arith) in
+total_most : (n x : ℕ) (g : ℕ → ℕ) → ((u : ℕ) → u < n → g u ≤ x) → total n g ≤ n * x
+total_most zero x g most = omega arith
+total_most (suc n) x g most =
+    let before = total_most n x g (λ u i. most u (omega arith)) in
+    let here = most n (omega arith) in
     let more = add-mul n 1 x in
     let one : 1 * x ≡ x = omega arith in
     let longer : suc n ≡ n + 1 = omega arith in
@@ -372,8 +384,8 @@ parts_of (Some c) None b h = cc
 parts_of None y b h = cc
 
 -- where each leaf has single classes alone, the tree is worth no less than the best grouping costs
-dear : (p : Problem) (share : ℕ) (fits : Allowed → RowSum → Type 0) (c : ℤ) (tree : Tree Leaf) (f : Allowed) (b : Bound) → AllSingle p tree f → IsTree p tree f → IsKept p share fits c tree f → bound_of leaf_answer p tree f ≡ Some b → IsAtMost (Least c) b
-dear p share fits c (LeafNode leaf) f b single is kept worth =
+dear : (p : Problem) (share : ℕ) (fits : Allowed → RowSum → Type 0) (c : ℤ) (from : Leaf) (tree : Tree Leaf) (f : Allowed) (b : Bound) → AllSingle p tree f → IsTree p tree f → IsKept p share fits c from tree f → bound_of leaf_answer p tree f ≡ Some b → IsAtMost (Least c) b
+dear p share fits c from (LeafNode leaf) f b single is kept worth =
     let value = is.1 in
     let same : value.0 ≡ b = some_same (bound_in (leaf_answer leaf p f)) value.0 b (ap bound_in value.1) worth in
     kept.dear b (kept.single single) (value.1 ∙ ap Ok same)
@@ -382,12 +394,12 @@ dear p share fits c (LeafNode leaf) f b single is kept worth =
     some_same o x y e h =
         let both : Some x ≡ Some y = sym e ∙ h in
         cc
-dear p share fits c (Split' v k x with y rest) f b single is kept worth =
+dear p share fits c from (Split' v k x with y rest) f b single is kept worth =
     let parts = parts_of (bound_of leaf_answer p with (only f v k)) (bound_of leaf_answer p rest (without f v k)) b worth in
     subst (λ (z : Bound). IsAtMost (Least c) z) parts.4
     (least_of parts.0 parts.1 c
-    (dear p share fits c with (only f v k) parts.0 single.0 is.3 kept.1 parts.2)
-    (dear p share fits c rest (without f v k) parts.1 single.1 is.4 kept.2 parts.3))
+    (dear p share fits c kept.0.0 with (only f v k) parts.0 single.0 is.3 kept.1 parts.2)
+    (dear p share fits c kept.0.0 rest (without f v k) parts.1 single.1 is.4 kept.2 parts.3))
 
 -- ---- trees whose leaves of that bound stand at the greatest depth
 
@@ -397,8 +409,8 @@ either_least (Least a) (Least b) x =
 either_least (Least a) Void x = λ h. inl h
 either_least Void b x = λ h. inr h
 
-too_deep : (p : Problem) (share : ℕ) (fits : Allowed → RowSum → Type 0) (c b : ℤ) → b <ℤ c → (tree : Tree Leaf) (f : Allowed) (d : ℕ) → AreFilled p f → AreBelow p f → IsTree p tree f → IsKept p share fits c tree f → bound_of leaf_answer p tree f ≡ Some (Least b) → IsDeep p (Least b) tree f d → room p f + d ≤ DEPTH → ⊥
-too_deep p share fits c b less (LeafNode leaf) f d filled below is kept worth deep few =
+too_deep : (p : Problem) (share : ℕ) (fits : Allowed → RowSum → Type 0) (c b : ℤ) → b <ℤ c → (from : Leaf) (tree : Tree Leaf) (f : Allowed) (d : ℕ) → AreFilled p f → AreBelow p f → IsTree p tree f → IsKept p share fits c from tree f → bound_of leaf_answer p tree f ≡ Some (Least b) → IsDeep p (Least b) tree f d → room p f + d ≤ DEPTH → ⊥
+too_deep p share fits c b less from (LeafNode leaf) f d filled below is kept worth deep few =
     let value = is.1 in
     let same : value.0 ≡ Least b = some_same (bound_in (leaf_answer leaf p f)) value.0 (Least b) (ap bound_in value.1) worth in
     let answers : leaf_answer leaf p f ≡ Ok (Least b) = value.1 ∙ ap Ok same in
@@ -412,34 +424,40 @@ too_deep p share fits c b less (LeafNode leaf) f d filled below is kept worth de
     some_same o x y e h =
         let both : Some x ≡ Some y = sym e ∙ h in
         cc
-too_deep p share fits c b less (Split' v k x with y rest) f d filled below is kept worth deep few =
+too_deep p share fits c b less from (Split' v k x with y rest) f d filled below is kept worth deep few =
     let hk = below v k is.0 is.1 in
     let parts = parts_of (bound_of leaf_answer p with (only f v k)) (bound_of leaf_answer p rest (without f v k)) (Least b) worth in
     let left = only_room p f v k is.0 hk is.1 is.2 in
     let right = without_room p f v k is.0 hk is.1 is.2 in
     elim (either_least parts.0 parts.1 b parts.4) [
-      | inl e ↦ too_deep p share fits c b less with (only f v k) (d + 1) (filled_only p f v k hk filled) (only_below p f v k hk below) is.3 kept.1 (parts.2 ∙ ap Some e) deep.0 (omega arith)
-      | inr e ↦ too_deep p share fits c b less rest (without f v k) (d + 1) (filled_without p f v k is.2 filled) (without_below p f v k below) is.4 kept.2 (parts.3 ∙ ap Some e) deep.1 (omega arith)
+      | inl e ↦ too_deep p share fits c b less kept.0.0 with (only f v k) (d + 1) (filled_only p f v k hk filled) (only_below p f v k hk below) is.3 kept.1 (parts.2 ∙ ap Some e) deep.0 (omega arith)
+      | inr e ↦ too_deep p share fits c b less kept.0.0 rest (without f v k) (d + 1) (filled_without p f v k is.2 filled) (without_below p f v k below) is.4 kept.2 (parts.3 ∙ ap Some e) deep.1 (omega arith)
     ]
 
--- with enough splits the bound meets the cost
-pub never_within : (p : Problem) (share : ℕ) (fits : Allowed → RowSum → Type 0) (splits : ℕ) (c b : ℤ) (deep : Bool) (tree : Tree Leaf) → IsProblem p → HasEnough p splits → IsWithin p share fits splits c b deep tree → ⊥
-never_within p share fits splits c b deep tree ok enough is =
+-- where some grouping is feasible, each area has an allowed class at the root
+root_filled : (p : Problem) (f : Allowed) (g : Grouping) → IsProblem p → IsFeasible p g → IsRoot p f → AreFilled p f
+root_filled p f g ok good root v h =
+    let inside = root_law p f g ok good root v h in
+    (class_at g v, root.only v (class_at g v) h inside, inside)
+
+-- with enough splits the bound meets the cost of a feasible grouping
+pub never_within : (p : Problem) (share : ℕ) (fits : Allowed → RowSum → Type 0) (splits : ℕ) (g : Grouping) (c b : ℤ) (deep : Bool) (tree : Tree Leaf) → IsProblem p → IsFeasible p g → HasEnough p splits → IsWithin p share fits splits c b deep tree → ⊥
+never_within p share fits splits g c b deep tree ok good enough is =
     let f = is.searched.proves.allowed in
     let root = is.searched.proves.root in
-    let filled : AreFilled p f = λ v h. (0, ok.some_class, root.all v 0 h ok.some_class) in
+    let filled = root_filled p f g ok good root in
     let below : AreBelow p f = root.only in
-    let whole : (u : ℕ) → u < areas p → counts p f u ≡ p.classes = λ u h. count_all (f u) p.classes (λ k q. root.all u k h q) in
+    let few : (u : ℕ) → u < areas p → counts p f u ≤ p.classes = λ u h. count_most (f u) p.classes in
     by_test deep _
     (λ t.
-    let roomy = total_times (areas p) (p.classes - 1) (λ v. counts p f v - 1) (λ u h. ap (λ z. z - 1) (whole u h)) in
+    let roomy = total_most (areas p) (p.classes - 1) (λ v. counts p f v - 1) (λ u h. (let most = few u h in omega arith)) in
     let enough_room = enough.1 in
-    too_deep p share fits c b is.below tree f 0 filled below is.searched.proves.sound is.searched.kept is.searched.proves.bound (is.deepest t) (omega arith))
+    too_deep p share fits c b is.below no_parent tree f 0 filled below is.searched.proves.sound is.searched.kept is.searched.proves.bound (is.deepest t) (omega arith))
     (λ t.
     let count = is.spent t in
-    let sized = product_power (areas p) p.classes (counts p f) whole in
+    let sized = product_most (areas p) p.classes (counts p f) few in
     let enough_splits = enough.0 in
     let single = all_single p tree f filled below is.searched.proves.sound (omega arith) in
-    let low : c ≤ℤ b = dear p share fits c tree f (Least b) single is.searched.proves.sound is.searched.kept is.searched.proves.bound in
+    let low : c ≤ℤ b = dear p share fits c no_parent tree f (Least b) single is.searched.proves.sound is.searched.kept is.searched.proves.bound in
     let less = is.below in
     omega (arith, ints))

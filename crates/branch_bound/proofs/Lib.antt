@@ -10,3 +10,4 @@ pub mod EnoughLemmas
 pub mod ForkLemmas
 pub mod LawLemmas
 pub mod HalfLemmas
+pub mod TakenLemmas

@@ -4,7 +4,8 @@ use Rattle.std.specs.Prelude.{ℤ, ◌≤ℤ◌, ◌<ℤ◌, int_lt, not, ◌&&�
 use Rattle.std.proofs.lemmas.Int.{ints}
 use Rattle.std.proofs.lemmas.Bool.Decides.{nat_tests}
 use Rattle.agg_base.specs.declared.limits.TheConstants.{DEPTH}
-use Rattle.agg_model.specs.Problem.{Problem, Grouping, IsProblem, areas, cost}
+use Rattle.agg_model.specs.Problem.{Problem, Grouping, IsProblem, IsFeasible, areas, cost}
+use Rattle.greedy_start.specs.Starts.{IsNumberedByLeast}
 use Rattle.row_laws.specs.Values.{Allowed, RowSum}
 use Rattle.row_laws.specs.Bounds.{HoldsFor}
 use Rattle.row_laws.specs.Fixed.{AreSingle, fixed_value, kind_in}
@@ -30,7 +31,7 @@ use Rattle.branch_bound.specs.Tips.{is_closed, is_below, is_open}
 use Rattle.branch_bound.specs.Components.{IsPriced}
 use Rattle.branch_bound.specs.Growth.{shape_of}
 use Rattle.branch_bound.specs.Shapes.{Shape, Tipped, rank_of, forked, first_tip, first_allowed, grown, splits_in, AreSplits, IsTreeOf}
-use Rattle.branch_bound.specs.Trees.{IsFork, IsGrown, IsTipOver, IsNoCheaper, IsGoodTip, HoldsOfAll, IsSpent, node_count}
+use Rattle.branch_bound.specs.Trees.{no_parent, IsFork, IsGrown, IsTipOver, IsNoCheaper, IsGoodTip, HoldsOfAll, IsSpent, node_count}
 use Rattle.branch_bound.specs.Enough.{HasEnough, IsClosed}
 use Rattle.branch_bound.specs.Outcomes.{IsFound, IsSearched, IsWithin, IsKind, IsKindBy, IsAskedFor}
 use Rattle.branch_bound.specs.Searches.{IsBest, IsSearch}
@@ -42,8 +43,8 @@ use Rattle.branch_bound.proofs.ShapeLemmas.{tree_sound, tree_bound, tree_splits,
 -- ---- tips
 
 -- what fits one provider fits another
-pub tip_same : (p : Problem) (share : ℕ) (fits other : Allowed → RowSum → Type 0) (f : Allowed) (d : ℕ) (t : Tip) → ((s : RowSum) → fits f s → other f s) → IsTipOver p share fits f d t → IsTipOver p share other f d t
-tip_same p share fits other f d t same is =
+pub tip_same : (p : Problem) (share : ℕ) (fits other : Allowed → RowSum → Type 0) (x : Leaf) (f : Allowed) (d : ℕ) (t : Tip) → ((s : RowSum) → fits f s → other f s) → IsTipOver p share fits x f d t → IsTipOver p share other x f d t
+tip_same p share fits other x f d t same is =
     record {
       sound = is.sound;
       worth = is.worth;
@@ -54,9 +55,9 @@ tip_same p share fits other f d t same is =
     }
 
 -- an offer that fits makes the tip
-pub tip_fits : (p : Problem) (share : ℕ) (fits : Allowed → RowSum → Type 0) (offer : RowSum) (f : Allowed) (d : ℕ) (t : Tip) → fits f offer → IsTipOver p share (λ _ s. s ≡ offer) f d t → IsTipOver p share fits f d t
-tip_fits p share fits offer f d t fit is =
-    tip_same p share (λ _ s. s ≡ offer) fits f d t (λ s e. subst (λ (x : RowSum). fits f x) (sym e) fit) is
+pub tip_fits : (p : Problem) (share : ℕ) (fits : Allowed → RowSum → Type 0) (offer : RowSum) (x : Leaf) (f : Allowed) (d : ℕ) (t : Tip) → fits f offer → IsTipOver p share (λ _ s. s ≡ offer) x f d t → IsTipOver p share fits x f d t
+tip_fits p share fits offer x f d t fit is =
+    tip_same p share (λ _ s. s ≡ offer) fits x f d t (λ s e. subst (λ (x : RowSum). fits f x) (sym e) fit) is
 
 pub cheaper_still : (c e : ℤ) (t : Tip) → e ≤ℤ c → IsNoCheaper c t → IsNoCheaper e t
 cheaper_still c e t less is fixed = at_most_along (Least e) (Least c) t.bound less (is fixed)
@@ -80,6 +81,16 @@ found_cheaper p f leaf bound old new c d best is least worth price less =
     inner (Ok z) x y h k = cc
     inner (Err e) x y h k = cc
 
+-- a feasible grouping that costs less than the best one, numbered by its least areas, is as good as that
+pub found_less : (p : Problem) (old new : Grouping) (c : ℤ) → IsFound p old c → IsFeasible p new → IsNumberedByLeast p new → cost p new <ℤ cost p old → IsFound p new (cost p new)
+found_less p old new c best feasible numbered less =
+    record {
+      feasible = feasible;
+      numbered = numbered;
+      cheap = λ parts are one. (let most = best.cheap parts are one in omega (arith, ints));
+      costs = refl;
+    }
+
 pub no_dearer : (a b c : ℤ) → a ≤ℤ b → b ≤ℤ c → a ≤ℤ c
 no_dearer a b c h k = omega (arith, ints)
 
@@ -93,25 +104,25 @@ search_same p share fits other s same is =
       scratch = is.scratch;
       best = is.best;
       tree = grown_same p (IsGoodTip p share fits s.best.cost) (IsGoodTip p share other s.best.cost) (IsSpent p share fits) (IsSpent p share other)
-          (λ f d t tip. (tip_same p share fits other f d t (same f) tip.0, tip.1))
-          (λ f spent. (spent.0, same f spent.0 spent.1, spent.2)) (shape_of s.growth) (allows s.whole) 0 is.tree;
+          (λ x f d t tip. (tip_same p share fits other x f d t (same f) tip.0, tip.1))
+          (λ x f had spent. (spent.0, same f spent.0 spent.1, spent.2, spent.3)) no_parent (shape_of s.growth) (allows s.whole) 0 is.tree;
     }
 
-worth_tips : (p : Problem) (share : ℕ) (fits : Allowed → RowSum → Type 0) (c : ℤ) (s : Shape) (f : Allowed) (d : ℕ) → IsGrown p (IsGoodTip p share fits c) (IsSpent p share fits) s f d → IsGrown p (λ f d t. IsWorthTip p f t) (IsSpent p share fits) s f d
-worth_tips p share fits c s f d is =
-    grown_same p (IsGoodTip p share fits c) (λ f d t. IsWorthTip p f t) (IsSpent p share fits) (IsSpent p share fits) (λ f d t tip. record { sound = tip.0.sound; worth = tip.0.worth }) (λ f spent. spent) s f d is
+worth_tips : (p : Problem) (share : ℕ) (fits : Allowed → RowSum → Type 0) (c : ℤ) (x : Leaf) (s : Shape) (f : Allowed) (d : ℕ) → IsGrown p (IsGoodTip p share fits c) (IsSpent p share fits) x s f d → IsGrown p (λ _ f d t. IsWorthTip p f t) (IsSpent p share fits) x s f d
+worth_tips p share fits c x s f d is =
+    grown_same p (IsGoodTip p share fits c) (λ _ f d t. IsWorthTip p f t) (IsSpent p share fits) (IsSpent p share fits) (λ x f d t tip. record { sound = tip.0.sound; worth = tip.0.worth }) (λ x f had spent. spent) x s f d is
 
 -- the bound of the first rank holds of every feasible grouping
 pub search_holds : (p : Problem) (share : ℕ) (fits : Allowed → RowSum → Type 0) (s : Search) → IsSearch p share fits s → HoldsOfAll p (rank_of (shape_of s.growth)).bound
 search_holds p share fits s is g good =
-    grown_holds p (IsSpent p share fits) is.rules (shape_of s.growth) (allows s.whole) 0 (worth_tips p share fits s.best.cost (shape_of s.growth) (allows s.whole) 0 is.tree) g good (root_law p (allows s.whole) g is.rules good is.root)
+    grown_holds p (IsSpent p share fits) is.rules no_parent (shape_of s.growth) (allows s.whole) 0 (worth_tips p share fits s.best.cost no_parent (shape_of s.growth) (allows s.whole) 0 is.tree) g good (root_law p (allows s.whole) g is.rules good is.root)
 
 -- ---- a split
 
 -- the splits of a search are proper
 pub search_splits : (p : Problem) (share : ℕ) (fits : Allowed → RowSum → Type 0) (s : Search) → IsSearch p share fits s → AreSplits (areas p) (shape_of s.growth) (allows s.whole)
 search_splits p share fits s is =
-    are_splits p p.classes (IsGoodTip p share fits s.best.cost) (IsSpent p share fits) is.rules.few_classes (shape_of s.growth) (allows s.whole) 0 is.domains.below is.tree
+    are_splits p p.classes (IsGoodTip p share fits s.best.cost) (IsSpent p share fits) is.rules.few_classes no_parent (shape_of s.growth) (allows s.whole) 0 is.domains.below is.tree
 
 not_closed : (b : Bool) → not b ≡ true → b ≡ false
 not_closed true h = cc
@@ -129,48 +140,44 @@ open_leaf (Sum s) d h = ((λ e. cc), grind (arith, nat_tests))
 pub open_tip : (p : Problem) (share : ℕ) (fits : Allowed → RowSum → Type 0) (s : Search) → IsSearch p share fits s → is_open (rank_of (shape_of s.growth)) s.best.cost ≡ true
     → (¬ AreSingle p (first_allowed (shape_of s.growth) (allows s.whole)) (areas p)) × ((first_tip (shape_of s.growth)).depth < DEPTH)
 open_tip p share fits s is may =
-    let first = first_tip_is p (IsGoodTip p share fits s.best.cost) (IsSpent p share fits) (shape_of s.growth) (allows s.whole) 0 is.tree in
+    let first = first_tip_is p (IsGoodTip p share fits s.best.cost) (IsSpent p share fits) no_parent (shape_of s.growth) (allows s.whole) 0 is.tree in
     let closed = not_closed (rank_of (shape_of s.growth)).is_closed (and_both_of (is_below (rank_of (shape_of s.growth)).bound s.best.cost) (not (rank_of (shape_of s.growth)).is_closed) may).1 in
     let leaf = open_leaf (first_tip (shape_of s.growth)).leaf (first_tip (shape_of s.growth)).depth (ap (λ (r : Rank). r.is_closed) first.1 ∙ closed) in
-    (λ single. leaf.0 (first.0.1.0.single single), leaf.1)
+    (λ single. leaf.0 (first.0.2.0.single single), leaf.1)
 
-ok_same : (leaf other : Leaf) (p : Problem) (f : Allowed) (a b : Bound) → leaf ≡ other → leaf_answer leaf p f ≡ Ok a → leaf_answer other p f ≡ Ok b → b ≡ a
-ok_same leaf other p f a b e h k =
-    let there : leaf_answer other p f ≡ Ok a = subst (λ (l : Leaf). leaf_answer l p f ≡ Ok a) e h in
-    let both : Ok b ≡ Ok a = sym k ∙ there in
-    cc
+-- what is at most what holds holds too
+holds_below : (p : Problem) (g : Grouping) (b c : Bound) → IsAtMost b c → HoldsFor c p g → HoldsFor b p g
+holds_below p g (Least b) (Least c) h k = omega (arith, ints)
+holds_below p g (Least b) Void h k = absurd k
+holds_below p g Void (Least c) h k = absurd h
+holds_below p g Void Void h k = k
 
 -- the offer of a tip is worth no more than what holds of every feasible grouping
-spent_of : (p : Problem) (share : ℕ) (fits : Allowed → RowSum → Type 0) (f : Allowed) (d : ℕ) (t : Tip) → HoldsOfAll p t.bound → (¬ AreSingle p f (areas p)) → IsTipOver p share fits f d t → IsSpent p share fits f
-spent_of p share fits f d t holds several is =
-    let from = is.offered several in (
-      from.0,
-      from.1,
-      λ b worth. elim from.2 [
-        | inl taken ↦ subst (λ (z : Bound). HoldsOfAll p z) (sym (ok_same t.leaf (Sum from.0) p f t.bound b taken.0 is.worth worth.value)) holds
-        | inr other ↦ absurd (other.1 (b, worth))
-      ],
-    )
+spent_of : (p : Problem) (share : ℕ) (fits : Allowed → RowSum → Type 0) (x : Leaf) (f : Allowed) (d : ℕ) (t : Tip) → HoldsOfAll p t.bound → (¬ AreSingle p f (areas p)) → IsTipOver p share fits x f d t → IsSpent p share fits x f t.leaf
+spent_of p share fits x f d t holds several is =
+    let from = is.offered several in
+    (from.0, from.1, from.2, λ b worth g good. holds_below p g b t.bound (from.2.worth b t.bound worth is.worth) (holds g good))
 
 pub stepped : (p : Problem) (share : ℕ) (fits : Allowed → RowSum → Type 0) (s t : Search) (v k : ℕ) (left right : Tip) → IsSearch p share fits s → is_open (rank_of (shape_of s.growth)) s.best.cost ≡ true
     → IsFork p (first_allowed (shape_of s.growth) (allows s.whole)) v k → t.whole ≡ s.whole → shape_of t.growth ≡ grown (shape_of s.growth) (forked v k (Tipped left) (Tipped right))
     → t.best.cost ≤ℤ s.best.cost → IsBest p t.best → IsScratchFor p t.scratch
-    → IsGoodTip p share fits t.best.cost (only (first_allowed (shape_of s.growth) (allows s.whole)) v k) ((first_tip (shape_of s.growth)).depth + 1) left
-    → IsGoodTip p share fits t.best.cost (without (first_allowed (shape_of s.growth) (allows s.whole)) v k) ((first_tip (shape_of s.growth)).depth + 1) right
+    → IsGoodTip p share fits t.best.cost (first_tip (shape_of s.growth)).leaf (only (first_allowed (shape_of s.growth) (allows s.whole)) v k) ((first_tip (shape_of s.growth)).depth + 1) left
+    → IsGoodTip p share fits t.best.cost (first_tip (shape_of s.growth)).leaf (without (first_allowed (shape_of s.growth) (allows s.whole)) v k) ((first_tip (shape_of s.growth)).depth + 1) right
     → IsSearch p share fits t
 stepped p share fits s t v k left right is may fork whole growth less found room first second =
     let shape = shape_of s.growth in
     let f = first_allowed shape (allows s.whole) in
-    let rank = (first_tip_is p (IsGoodTip p share fits s.best.cost) (IsSpent p share fits) shape (allows s.whole) 0 is.tree).1 in
+    let leaf = (first_tip shape).leaf in
+    let rank = (first_tip_is p (IsGoodTip p share fits s.best.cost) (IsSpent p share fits) no_parent shape (allows s.whole) 0 is.tree).1 in
     let holds : HoldsOfAll p (first_tip shape).bound = subst (λ (z : Bound). HoldsOfAll p z) (sym (ap (λ (r : Rank). r.bound) rank)) (search_holds p share fits s is) in
     let cheaper = grown_same p (IsGoodTip p share fits s.best.cost) (IsGoodTip p share fits t.best.cost) (IsSpent p share fits) (IsSpent p share fits)
-    (λ f d x is. (is.0, cheaper_still s.best.cost t.best.cost x less is.1)) (λ f spent. spent) shape (allows s.whole) 0 is.tree in
-    let more = grown_keeps p (IsGoodTip p share fits t.best.cost) (IsSpent p share fits) shape (forked v k (Tipped left) (Tipped right)) (allows s.whole) 0 cheaper (λ e here. (
+    (λ y f d x is. (is.0, cheaper_still s.best.cost t.best.cost x less is.1)) (λ y f had spent. spent) no_parent shape (allows s.whole) 0 is.tree in
+    let more = grown_keeps p (IsGoodTip p share fits t.best.cost) (IsSpent p share fits) no_parent shape (forked v k (Tipped left) (Tipped right)) (allows s.whole) 0 cheaper (λ y e here. (
       fork,
       refl,
-      spent_of p share fits f e (first_tip shape) holds (open_tip p share fits s is may).0 here.0,
-      subst (λ (d : ℕ). IsGoodTip p share fits t.best.cost (only f v k) (d + 1) left) here.0.depth first,
-      subst (λ (d : ℕ). IsGoodTip p share fits t.best.cost (without f v k) (d + 1) right) here.0.depth second,
+      (leaf, spent_of p share fits y f e (first_tip shape) holds (open_tip p share fits s is may).0 here.0),
+      subst (λ (d : ℕ). IsGoodTip p share fits t.best.cost leaf (only f v k) (d + 1) left) here.0.depth first,
+      subst (λ (d : ℕ). IsGoodTip p share fits t.best.cost leaf (without f v k) (d + 1) right) here.0.depth second,
     )) in
     record {
       rules = is.rules;
@@ -178,21 +185,24 @@ stepped p share fits s t v k left right is may fork whole growth less found room
       domains = subst (λ (w : List ℕ). IsFor p w) (sym whole) is.domains;
       scratch = room;
       best = found;
-      tree = subst (λ (w : List ℕ). IsGrown p (IsGoodTip p share fits t.best.cost) (IsSpent p share fits) (shape_of t.growth) (allows w) 0) (sym whole)
-          (subst (λ (x : Shape). IsGrown p (IsGoodTip p share fits t.best.cost) (IsSpent p share fits) x (allows s.whole) 0) (sym growth) more);
+      tree = subst (λ (w : List ℕ). IsGrown p (IsGoodTip p share fits t.best.cost) (IsSpent p share fits) no_parent (shape_of t.growth) (allows w) 0) (sym whole)
+          (subst (λ (x : Shape). IsGrown p (IsGoodTip p share fits t.best.cost) (IsSpent p share fits) no_parent x (allows s.whole) 0) (sym growth) more);
     }
 
 -- the same, where the domains of the first tip and of its halves are known by what they allow
-pub split_keeps : (p : Problem) (share : ℕ) (fits : Allowed → RowSum → Type 0) (s t : Search) (f a b : Allowed) (v k d : ℕ) (left right : Tip) → IsSearch p share fits s → is_open (rank_of (shape_of s.growth)) s.best.cost ≡ true
-    → f ≡ first_allowed (shape_of s.growth) (allows s.whole) → IsFork p f v k → a ≡ only f v k → b ≡ without f v k → d ≡ (first_tip (shape_of s.growth)).depth + 1
+pub split_keeps : (p : Problem) (share : ℕ) (fits : Allowed → RowSum → Type 0) (s t : Search) (f a b : Allowed) (v k d : ℕ) (leaf : Leaf) (left right : Tip) → IsSearch p share fits s → is_open (rank_of (shape_of s.growth)) s.best.cost ≡ true
+    → f ≡ first_allowed (shape_of s.growth) (allows s.whole) → IsFork p f v k → a ≡ only f v k → b ≡ without f v k → d ≡ (first_tip (shape_of s.growth)).depth + 1 → leaf ≡ (first_tip (shape_of s.growth)).leaf
     → t.whole ≡ s.whole → shape_of t.growth ≡ grown (shape_of s.growth) (forked v k (Tipped left) (Tipped right)) → t.best.cost ≤ℤ s.best.cost → IsBest p t.best → IsScratchFor p t.scratch
-    → IsGoodTip p share fits t.best.cost a d left → IsGoodTip p share fits t.best.cost b d right → IsSearch p share fits t
-split_keeps p share fits s t f a b v k d left right is may same fork one other deep whole growth less found room first second =
+    → IsGoodTip p share fits t.best.cost leaf a d left → IsGoodTip p share fits t.best.cost leaf b d right → IsSearch p share fits t
+split_keeps p share fits s t f a b v k d leaf left right is may same fork one other deep had whole growth less found room first second =
     let c = t.best.cost in
-    let e = (first_tip (shape_of s.growth)).depth + 1 in
+    let tip = first_tip (shape_of s.growth) in
+    let e = tip.depth + 1 in
     stepped p share fits s t v k left right is may (subst (λ (x : Allowed). IsFork p x v k) same fork) whole growth less found room
-    (subst (λ (x : Allowed). IsGoodTip p share fits c (only x v k) e left) same (subst (λ (x : Allowed). IsGoodTip p share fits c x e left) one (subst (λ (n : ℕ). IsGoodTip p share fits c a n left) deep first)))
-    (subst (λ (x : Allowed). IsGoodTip p share fits c (without x v k) e right) same (subst (λ (x : Allowed). IsGoodTip p share fits c x e right) other (subst (λ (n : ℕ). IsGoodTip p share fits c b n right) deep second)))
+    (subst (λ (l : Leaf). IsGoodTip p share fits c l (only (first_allowed (shape_of s.growth) (allows s.whole)) v k) e left) had
+    (subst (λ (x : Allowed). IsGoodTip p share fits c leaf (only x v k) e left) same (subst (λ (x : Allowed). IsGoodTip p share fits c leaf x e left) one (subst (λ (n : ℕ). IsGoodTip p share fits c leaf a n left) deep first))))
+    (subst (λ (l : Leaf). IsGoodTip p share fits c l (without (first_allowed (shape_of s.growth) (allows s.whole)) v k) e right) had
+    (subst (λ (x : Allowed). IsGoodTip p share fits c leaf (without x v k) e right) same (subst (λ (x : Allowed). IsGoodTip p share fits c leaf x e right) other (subst (λ (n : ℕ). IsGoodTip p share fits c leaf b n right) deep second))))
 
 -- ---- the end
 
@@ -205,20 +215,20 @@ met p g c Void e h below = absurd h
 
 searched : (p : Problem) (share : ℕ) (fits : Allowed → RowSum → Type 0) (splits : ℕ) (s : Search) (tree : Tree Leaf) (b : ℤ) → IsSearch p share fits s → IsTreeOf (shape_of s.growth) tree → splits_in (shape_of s.growth) ≤ splits → (rank_of (shape_of s.growth)).bound ≡ Least b → IsSearched p share fits splits s.best.cost b tree
 searched p share fits splits s tree b is of few e =
-    let worth = worth_tips p share fits s.best.cost (shape_of s.growth) (allows s.whole) 0 is.tree in
+    let worth = worth_tips p share fits s.best.cost no_parent (shape_of s.growth) (allows s.whole) 0 is.tree in
     let count = tree_splits (shape_of s.growth) tree of in
-    let deep = tree_shallow p share fits (IsSpent p share fits) s.best.cost (shape_of s.growth) tree (allows s.whole) 0 of is.tree in
+    let deep = tree_shallow p share fits (IsSpent p share fits) s.best.cost no_parent (shape_of s.growth) tree (allows s.whole) 0 of is.tree in
     record {
       proves = record {
         allowed = allows s.whole;
         root = is.root;
-        sound = tree_sound p (IsSpent p share fits) (shape_of s.growth) tree (allows s.whole) 0 of worth;
-        bound = tree_bound p (IsSpent p share fits) (shape_of s.growth) tree (allows s.whole) 0 of worth ∙ ap Some e;
+        sound = tree_sound p (IsSpent p share fits) no_parent (shape_of s.growth) tree (allows s.whole) 0 of worth;
+        bound = tree_bound p (IsSpent p share fits) no_parent (shape_of s.growth) tree (allows s.whole) 0 of worth ∙ ap Some e;
       };
       holds = λ g good. subst (λ (z : Bound). HoldsFor z p g) e (search_holds p share fits s is g good);
       few = omega arith;
       shallow = omega arith;
-      kept = tree_kept p share fits s.best.cost s.best.grouping is.best.feasible is.best.costs (shape_of s.growth) tree (allows s.whole) 0 of is.tree;
+      kept = tree_kept p share fits s.best.cost s.best.grouping is.best.feasible is.best.costs no_parent (shape_of s.growth) tree (allows s.whole) 0 of is.tree;
     }
 
 not_open : (b c : ℤ) (r : Bound) (closed : Bool) → r ≡ Least b → b <ℤ c → closed ≡ false → is_below r c && not closed ≡ false → ⊥
@@ -241,7 +251,7 @@ within p share fits splits s tree b deep is of few e less shut end =
         | inr none ↦ absurd (not_open b s.best.cost (rank_of (shape_of s.growth)).bound (rank_of (shape_of s.growth)).is_closed e less (sym shut ∙ may) none)
       ];
       deepest = λ closed.
-          tree_deep p share fits (IsSpent p share fits) s.best.cost b less (shape_of s.growth) tree (allows s.whole) 0 of is.tree
+          tree_deep p share fits (IsSpent p share fits) s.best.cost b less no_parent (shape_of s.growth) tree (allows s.whole) 0 of is.tree
           (subst (λ (z : Bound). IsAtMost (Least b) z) (sym e) (at_most_same (Least b))) (λ _. sym shut ∙ closed);
     }
 
@@ -274,5 +284,5 @@ asked_all a b n s tree of first rest =
 -- with enough splits the bound is the cost, or nothing is feasible
 pub closed_by : (p : Problem) (share : ℕ) (fits : Allowed → RowSum → Type 0) (splits : ℕ) (tree : Tree Leaf) (kind : Kind) → IsProblem p → HasEnough p splits → IsKind p share fits splits tree kind → IsClosed kind
 closed_by p share fits splits tree (Optimal best c) ok enough is = tt
-closed_by p share fits splits tree (Within best c b deep) ok enough is = never_within p share fits splits c b deep tree ok enough is.1
+closed_by p share fits splits tree (Within best c b deep) ok enough is = never_within p share fits splits best c b deep tree ok is.0.feasible enough is.1
 closed_by p share fits splits tree NoGrouping ok enough is = tt

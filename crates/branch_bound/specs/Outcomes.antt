@@ -17,7 +17,7 @@ use Rattle.branch_bound.specs.declared.outcome.Kind.TheVariants.{Optimal, Within
 use Rattle.branch_bound.specs.declared.outcome.Outcome.{Outcome}
 use Rattle.branch_bound.specs.declared.tips.Rank.{Rank}
 use Rattle.branch_bound.specs.Tips.{is_below}
-use Rattle.branch_bound.specs.Trees.{Fits, IsKept, IsDeep, node_count}
+use Rattle.branch_bound.specs.Trees.{Fits, no_parent, IsKept, IsDeep, node_count}
 
 -- the tree is sound over the domains of the root, and this is its bound
 pub record Proves (p : Problem) (tree : Tree Leaf) (b : Bound) : Type 0 where
@@ -39,7 +39,7 @@ pub record IsSearched (p : Problem) (share : ℕ) (fits : Allowed → RowSum →
   pub holds : (g : Grouping) → IsFeasible p g → b ≤ℤ cost p g
   pub few : split_count tree ≤ splits
   pub shallow : depth_of tree ≤ DEPTH
-  pub kept : IsKept p share fits c tree proves.allowed
+  pub kept : IsKept p share fits c no_parent tree proves.allowed
 
 -- the bound is below the cost, since all splits are spent, or since each leaf of this bound stands at the greatest depth
 pub record IsWithin (p : Problem) (share : ℕ) (fits : Allowed → RowSum → Type 0) (splits : ℕ) (c b : ℤ) (deep : Bool) (tree : Tree Leaf) : Type 0 where

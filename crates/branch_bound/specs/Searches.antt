@@ -8,7 +8,7 @@ use Rattle.bound_rows.specs.Scratches.{IsScratchFor}
 use Rattle.branch_bound.specs.declared.search.Best.{Best}
 use Rattle.branch_bound.specs.declared.search.Search.{Search}
 use Rattle.branch_bound.specs.Growth.{shape_of}
-use Rattle.branch_bound.specs.Trees.{IsGrown, IsGoodTip, IsSpent}
+use Rattle.branch_bound.specs.Trees.{no_parent, IsGrown, IsGoodTip, IsSpent}
 use Rattle.branch_bound.specs.Outcomes.{IsFound}
 
 abbrev pub IsBest : Problem → Best → Type 0
@@ -20,4 +20,4 @@ pub record IsSearch (p : Problem) (share : ℕ) (fits : Allowed → RowSum → T
   pub domains : IsFor p s.whole
   pub scratch : IsScratchFor p s.scratch
   pub best : IsBest p s.best
-  pub tree : IsGrown p (IsGoodTip p share fits s.best.cost) (IsSpent p share fits) (shape_of s.growth) (allows s.whole) 0
+  pub tree : IsGrown p (IsGoodTip p share fits s.best.cost) (IsSpent p share fits) no_parent (shape_of s.growth) (allows s.whole) 0

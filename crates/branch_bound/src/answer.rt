@@ -7,6 +7,7 @@ ghost use Rattle.branch_bound.specs.Outcomes.{IsSolved, IsAsked};
 
 use crate::hopeless::void_tree;
 use crate::search::{Best, Search, kind_of};
+use crate::tries::Tries;
 use crate::{Kind, Outcome};
 use agg_base::NoMemory;
 use agg_base::limits::{MARKS, SPLITS};
@@ -24,8 +25,9 @@ use std::alloc::Global;
 /// - `NoGrouping` exactly where no grouping is feasible. The tree is one void leaf over the first hopeless part.
 ///
 /// The provider is asked once at each node, with a share of the marks of a certificate. A leaf is `Fixed` where each area has one class, else it
-/// is what was offered, or the sum without rows where that is not usable. A leaf of least bound is split next, by what the provider hints at
-/// where that is a split, else by the heaviest area that has more than one class. The one refusal is want of memory.
+/// is what was offered, or the sum without rows where that is not usable, or the leaf that its parent had where that is worth more. A leaf of
+/// least bound is split next, by what the provider hints at where that is a split, else where the leaf leaves most to tell. The one refusal is
+/// want of memory.
 pub fn solve<P: BoundProvider>(
     alloc: Global,
     problem: &Problem,
@@ -67,7 +69,11 @@ fn search<P: BoundProvider>(
 {
     let share = share_of(splits);
     let cost = cost(problem, &grouping);
-    let best = Best { grouping, cost };
+    let best = Best {
+        grouping,
+        cost,
+        tries: Tries::new(alloc),
+    };
     let mut state = Search::of(alloc, problem, provider, best, share)?;
     state.run(alloc, problem, provider, splits, share)?;
     let Search { growth, best, .. } = state;

@@ -74,6 +74,22 @@ impl Growth {
         }
     }
 
+    // The leaf of its first tip.
+    pub(crate) fn first_leaf(&self) -> &Leaf
+        ensures { result.now ≡ (first_tip (shape_of self.now)).leaf }
+    {
+        match self {
+            Growth::End(tip) => &tip.leaf,
+            Growth::Fork(_, _, _, with, rest) => {
+                if is_before(rest.rank(), with.rank()) {
+                    rest.first_leaf()
+                } else {
+                    with.first_leaf()
+                }
+            }
+        }
+    }
+
     // Puts a tree in place of its first tip.
     pub(crate) fn grow(&mut self, new: Growth)
         ensures { shape_of self.new ≡ grown (shape_of self.old) (shape_of new) }

@@ -9,23 +9,25 @@ ghost use Rattle.branch_bound.specs.Shapes.{first_tip, first_allowed, AreSplits}
 ghost use Rattle.branch_bound.specs.Trees.{IsFork};
 
 use crate::growth::Growth;
-use crate::pairs::{Pair, chosen_pair};
+use crate::pairs::chosen_pair;
 use agg_base::NoMemory;
 use agg_base::limits::DEPTH;
 use agg_model::Problem;
-use bound_rows::{BoundProvider, Domains};
+use bound_rows::{BoundProvider, Domains, Leaf};
 use std::alloc::Global;
 
-// Where a tip stands.
+// Where a tip stands, and its leaf.
 #[derive(Drop)]
 pub(crate) struct Place {
     pub(crate) domains: Domains,
     pub(crate) depth: u32,
+    pub(crate) leaf: Leaf,
 }
 
-// The domains of a tip, split on an area and a class, and the depth of the two halves.
+// The domains of a tip, split on an area and a class, with the depth of the two halves and the leaf that the tip had.
 #[derive(Drop)]
 pub(crate) struct Halves {
+    pub(crate) leaf: Leaf,
     pub(crate) area: u32,
     pub(crate) class: u8,
     pub(crate) depth: u32,
@@ -45,10 +47,16 @@ pub(crate) fn first_place(
     ensures domains { IfOk result (λ place. IsFor problem.now place.domains) }
     ensures allowed { IfOk result (λ place. allows place.domains ≡ first_allowed (shape_of growth.now) (allows whole.now)) }
     ensures depth { IfOk result (λ place. place.depth ≡ (first_tip (shape_of growth.now)).depth) }
+    ensures leaf { IfOk result (λ place. place.leaf ≡ (first_tip (shape_of growth.now)).leaf) }
 {
     let mut domains = whole.copy(alloc)?;
     let depth = growth.enter(&mut domains);
-    Ok(Place { domains, depth })
+    let leaf = growth.first_leaf().copy(alloc)?;
+    Ok(Place {
+        domains,
+        depth,
+        leaf,
+    })
 }
 
 // The two halves of a tip's domains.
@@ -63,14 +71,15 @@ pub(crate) fn halves_of<P: BoundProvider>(
     requires several { ¬ AreSingle problem.now (allows place.domains) (areas problem.now) }
     requires shallow { place.depth < DEPTH }
     ensures split { IfOk result (λ halves. IsFork problem.now (allows place.domains) halves.area halves.class) }
+    ensures leaf { IfOk result (λ halves. halves.leaf ≡ place.leaf) }
     ensures depth { IfOk result (λ halves. halves.depth ≡ place.depth + 1) }
     ensures with_for { IfOk result (λ halves. IsFor problem.now halves.with) }
     ensures with_allows { IfOk result (λ halves. allows halves.with ≡ only (allows place.domains) halves.area halves.class) }
     ensures rest_for { IfOk result (λ halves. IsFor problem.now halves.rest) }
     ensures rest_allows { IfOk result (λ halves. allows halves.rest ≡ without (allows place.domains) halves.area halves.class) }
 {
-    let Pair { area, class } = chosen_pair(problem, provider, &place.domains);
-    split_place(alloc, problem, place, area, class)
+    let pair = chosen_pair(alloc, problem, provider, &place.domains, &place.leaf)?;
+    split_place(alloc, problem, place, pair.area, pair.class)
 }
 
 // The two halves of a tip's domains by an area and a class.
@@ -87,18 +96,24 @@ fn split_place(
     requires shallow { place.depth < DEPTH }
     ensures area { IfOk result (λ halves. halves.area ≡ area) }
     ensures class { IfOk result (λ halves. halves.class ≡ class) }
+    ensures leaf { IfOk result (λ halves. halves.leaf ≡ place.leaf) }
     ensures depth { IfOk result (λ halves. halves.depth ≡ place.depth + 1) }
     ensures with_for { IfOk result (λ halves. IsFor problem.now halves.with) }
     ensures with_allows { IfOk result (λ halves. allows halves.with ≡ only (allows place.domains) area class) }
     ensures rest_for { IfOk result (λ halves. IsFor problem.now halves.rest) }
     ensures rest_allows { IfOk result (λ halves. allows halves.rest ≡ without (allows place.domains) area class) }
 {
-    let Place { domains, depth } = place;
+    let Place {
+        domains,
+        depth,
+        leaf,
+    } = place;
     let mut with = domains.copy(alloc)?;
     with.only(area, class);
     let mut rest = domains;
     rest.without(area, class);
     Ok(Halves {
+        leaf,
         area,
         class,
         depth: depth + 1,

@@ -2,14 +2,19 @@
 #![tactic(auto)]
 
 mod answer;
+mod beside;
+mod closest;
 mod components;
 mod growth;
 mod halves;
 mod hopeless;
+mod lists;
 mod outcome;
 mod pairs;
+mod rests;
 mod search;
 mod tips;
+mod tries;
 mod values;
 
 pub use answer::solve;

@@ -1,12 +1,15 @@
 // Which area is split, and by which class.
-ghost use Rattle.std.specs.Prelude.{◌≡◌, ◌<◌, ◌⊎◌, true, Some, IsTrue, IfSome};
+ghost use Rattle.std.specs.Prelude.{◌≡◌, ◌<◌, ◌⊎◌, true, Some, IsTrue, IfOk, IfSome};
 ghost use Rattle.agg_model.specs.Problem.{IsProblem, areas};
 ghost use Rattle.row_laws.specs.Fixed.{AreSingle, IsSingle};
 ghost use Rattle.bound_rows.specs.Domains.{allows, IsFor};
 ghost use Rattle.branch_bound.specs.Trees.{IsFork};
 
+use crate::closest::closest_choice;
+use agg_base::NoMemory;
 use agg_model::Problem;
-use bound_rows::{BoundProvider, Domains};
+use bound_rows::{BoundProvider, Domains, Leaf};
+use std::alloc::Global;
 
 // An area that may have the class, and another one.
 #[derive(Clone, Copy)]
@@ -15,23 +18,32 @@ pub(crate) struct Pair {
     pub(crate) class: u8,
 }
 
-// What to split on: what the provider hints at, where that is a split. Else the heaviest area that has more than one class.
+// What to split on: what the provider hints at, where that is a split. Else the area at which the leaf leaves most to tell, or the heaviest area
+// that has more than one class.
 pub(crate) fn chosen_pair<P: BoundProvider>(
+    alloc: Global,
     problem: &Problem,
     provider: &P,
     domains: &Domains,
-) -> Pair
+    leaf: &Leaf,
+) -> Result<Pair, NoMemory>
     requires domains { IsFor problem.now domains.now }
     requires rules { IsProblem problem.now }
     requires several { ¬ AreSingle problem.now (allows domains.now) (areas problem.now) }
-    ensures { IsFork problem.now (allows domains.now) result.area result.class }
+    ensures { IfOk result (λ pair. IsFork problem.now (allows domains.now) pair.area pair.class) }
 {
     if let Some((area, class)) = provider.hint(problem, domains) {
         if is_split(problem, domains, area, class) {
-            return Pair { area, class };
+            return Ok(Pair { area, class });
         }
     }
-    heaviest_pair(problem, domains)
+    if let Leaf::Sum(sum) = leaf {
+        let (area, class) = closest_choice(alloc, problem, domains, sum)?;
+        if is_split(problem, domains, area, class) {
+            return Ok(Pair { area, class });
+        }
+    }
+    Ok(heaviest_pair(problem, domains))
 }
 
 // Whether the area may have the class, and another one.

@@ -1,6 +1,7 @@
 // A search: the tree as far as it has grown, and the best grouping that was found.
-ghost use Rattle.std.specs.Prelude.{◌≡◌, ◌+◌, ◌-◌, ◌*◌, ◌^◌, ◌≤◌, ◌⊎◌, ◌↔◌, ℕ, ℤ, ◌≤ℤ◌, min, true, false, IfOk, IfSome, IfNone, Ok};
-ghost use Rattle.agg_model.specs.Problem.{Problem, IsProblem};
+ghost use Rattle.std.specs.Prelude.{◌≡◌, ◌+◌, ◌-◌, ◌*◌, ◌^◌, ◌≤◌, ◌⊎◌, ◌↔◌, ℕ, ℤ, ◌≤ℤ◌, ◌<ℤ◌, min, true, false, IfOk, IfSome, IfNone, Ok};
+ghost use Rattle.agg_model.specs.Problem.{Problem, IsProblem, IsFeasible, cost};
+ghost use Rattle.greedy_start.specs.Starts.{IsNumberedByLeast};
 ghost use Rattle.row_laws.specs.Values.{Allowed, RowSum};
 ghost use Rattle.row_laws.specs.Leaves.{IsSoundLeaf, leaf_answer};
 ghost use Rattle.row_laws.specs.declared.leaf.Leaf.TheVariants.{Fixed};
@@ -19,18 +20,21 @@ use crate::components::component_grouping;
 use crate::growth::Growth;
 use crate::halves::{Halves, first_place, halves_of};
 use crate::tips::{Rank, Tip};
-use crate::values::tip_over;
+use crate::tries::Tries;
+use crate::values::{no_rows, tip_over};
 use agg_base::NoMemory;
 use agg_base::limits::DEPTH;
-use agg_model::{Grouping, Problem};
+use agg_model::{Grouping, Problem, cost};
 use bound_rows::{Bound, BoundProvider, Domains, Leaf, Scratch};
+use greedy_start::cheaper_from;
 use std::alloc::Global;
 
-// A feasible grouping and what it costs.
+// A feasible grouping and what it costs, and what was tried to find a better one.
 #[derive(Drop)]
 pub(crate) struct Best {
     pub(crate) grouping: Grouping,
     pub(crate) cost: i128,
+    pub(crate) tries: Tries,
 }
 
 // The domains of the root, the tree over them, the best grouping, and room for values.
@@ -71,6 +75,71 @@ impl Best {
         Ok(())
     }
 
+    // Takes what a search finds from the cheapest classes of the tip, where it costs less. It is made where the tip is worth less than the best
+    // grouping costs, and where these classes are worth a try.
+    fn attempt(
+        &mut self,
+        alloc: Global,
+        problem: &Problem,
+        domains: &Domains,
+        tip: &Tip,
+    ) -> Result<(), NoMemory>
+        requires domains { IsFor problem.now domains.now }
+        requires best { IsBest problem.now self.old }
+        ensures best { IfOk result (λ _. IsBest problem.now self.new) }
+        ensures less { IfOk result (λ _. self.new.cost ≤ℤ self.old.cost) }
+    {
+        let Leaf::Sum(sum) = &tip.leaf else {
+            return Ok(());
+        };
+        if !is_below(tip.bound, self.cost) {
+            return Ok(());
+        }
+        let classes = self
+            .tries
+            .classes(alloc, problem, domains, sum, &self.grouping)?;
+        let Some(classes) = classes else {
+            return Ok(());
+        };
+        self.improve_from(alloc, problem, classes)
+    }
+
+    // Takes what a search finds from these classes, where it costs less.
+    fn improve_from(
+        &mut self,
+        alloc: Global,
+        problem: &Problem,
+        classes: Vec<u8>,
+    ) -> Result<(), NoMemory>
+        requires best { IsBest problem.now self.old }
+        ensures best { IfOk result (λ _. IsBest problem.now self.new) }
+        ensures less { IfOk result (λ _. self.new.cost ≤ℤ self.old.cost) }
+    {
+        let turns = self.tries.begin(problem, classes);
+        let found = cheaper_from(alloc, problem, &self.grouping, self.tries.last(), turns)?;
+        match found {
+            None => Ok(()),
+            Some(found) => {
+                self.take(problem, found);
+                Ok(())
+            }
+        }
+    }
+
+    // Takes a grouping that costs less.
+    fn take(&mut self, problem: &Problem, found: Grouping)
+        requires best { IsBest problem.now self.old }
+        requires feasible { IsFeasible problem.now found }
+        requires numbered { IsNumberedByLeast problem.now found }
+        requires cheaper { cost problem.now found <ℤ cost problem.now self.old.grouping }
+        ensures best { IsBest problem.now self.new }
+        ensures less { self.new.cost ≤ℤ self.old.cost }
+    {
+        let price = cost(problem, &found);
+        self.grouping = found;
+        self.cost = price;
+    }
+
     // The tip over domains, for which the provider is asked.
     fn ask<P: BoundProvider>(
         &mut self,
@@ -78,6 +147,7 @@ impl Best {
         problem: &Problem,
         provider: &mut P,
         domains: &Domains,
+        from: &Leaf,
         depth: u32,
         share: u64,
         scratch: &mut Scratch,
@@ -88,7 +158,7 @@ impl Best {
         requires best { IsBest problem.now self.old }
         requires scratch { IsScratchFor problem.now scratch.old }
         ensures scratch { IfOk result (λ _. IsScratchFor problem.now scratch.new) }
-        ensures tip { IfOk result (λ tip. IsTipOver problem.now share (λ allowed sum. P.fits provider.old problem.now allowed share sum) (allows domains.now) depth tip) }
+        ensures tip { IfOk result (λ tip. IsTipOver problem.now share (λ allowed sum. P.fits provider.old problem.now allowed share sum) from.now (allows domains.now) depth tip) }
         ensures best { IfOk result (λ _. IsBest problem.now self.new) }
         ensures less { IfOk result (λ _. self.new.cost ≤ℤ self.old.cost) }
         ensures cheap { IfOk result (λ tip. IsNoCheaper self.new.cost tip) }
@@ -96,7 +166,8 @@ impl Best {
         ensures fits { (p : Problem) (allowed : Allowed) (n : ℕ) (s : RowSum) → P.fits provider.new p allowed n s ↔ P.fits provider.old p allowed n s }
     {
         let sum = provider.offer(alloc, problem, domains, self.cost, share)?;
-        let tip = tip_over(alloc, problem, domains, sum, depth, share, scratch);
+        let tip = tip_over(alloc, problem, domains, sum, from, depth, share, scratch)?;
+        self.attempt(alloc, problem, domains, &tip)?;
         self.improve(alloc, problem, domains, &tip)?;
         Ok(tip)
     }
@@ -132,7 +203,17 @@ impl Search {
         let mut best = best;
         let whole = Domains::whole(alloc, problem)?;
         let mut scratch = Scratch::new(alloc, problem)?;
-        let tip = best.ask(alloc, problem, provider, &whole, 0, share, &mut scratch)?;
+        let from = Leaf::Sum(no_rows(alloc));
+        let tip = best.ask(
+            alloc,
+            problem,
+            provider,
+            &whole,
+            &from,
+            0,
+            share,
+            &mut scratch,
+        )?;
         Ok(Search {
             whole,
             growth: Growth::of(tip),
@@ -174,6 +255,7 @@ impl Search {
         problem: &Problem,
         provider: &mut P,
         domains: &Domains,
+        from: &Leaf,
         depth: u32,
         share: u64,
     ) -> Result<Tip, NoMemory>
@@ -185,7 +267,7 @@ impl Search {
         ensures whole { IfOk result (λ _. self.new.whole ≡ self.old.whole) }
         ensures growth { IfOk result (λ _. self.new.growth ≡ self.old.growth) }
         ensures scratch { IfOk result (λ _. IsScratchFor problem.now self.new.scratch) }
-        ensures tip { IfOk result (λ tip. IsTipOver problem.now share (λ allowed sum. P.fits provider.old problem.now allowed share sum) (allows domains.now) depth tip) }
+        ensures tip { IfOk result (λ tip. IsTipOver problem.now share (λ allowed sum. P.fits provider.old problem.now allowed share sum) from.now (allows domains.now) depth tip) }
         ensures best { IfOk result (λ _. IsBest problem.now self.new.best) }
         ensures less { IfOk result (λ _. self.new.best.cost ≤ℤ self.old.best.cost) }
         ensures cheap { IfOk result (λ tip. IsNoCheaper self.new.best.cost tip) }
@@ -197,6 +279,7 @@ impl Search {
             problem,
             provider,
             domains,
+            from,
             depth,
             share,
             &mut self.scratch,
@@ -221,14 +304,15 @@ impl Search {
         let place = first_place(alloc, problem, &self.whole, &self.growth)?;
         let halves = halves_of(alloc, problem, provider, place)?;
         let Halves {
+            leaf,
             area,
             class,
             depth,
             with,
             rest,
         } = halves;
-        let left = self.ask(alloc, problem, provider, &with, depth, share)?;
-        let right = self.ask(alloc, problem, provider, &rest, depth, share)?;
+        let left = self.ask(alloc, problem, provider, &with, &leaf, depth, share)?;
+        let right = self.ask(alloc, problem, provider, &rest, &leaf, depth, share)?;
         let fork = Growth::fork(alloc, area, class, left, right)?;
         self.growth.grow(fork);
         Ok(())
@@ -256,7 +340,7 @@ fn is_open(rank: Rank, cost: i128) -> bool
 pub(crate) fn kind_of(best: Best, rank: Rank) -> Kind
     ensures { IsKindBy best.grouping best.cost rank result }
 {
-    let Best { grouping, cost } = best;
+    let Best { grouping, cost, .. } = best;
     match rank.bound {
         Bound::Least(bound) if bound < cost => Kind::Within {
             best: grouping,

@@ -44,7 +44,7 @@ impl Tip {
 }
 
 // Whether the first bound is less than the second, where a void one is greater than every number.
-fn is_less(x: Bound, y: Bound) -> bool
+pub(crate) fn is_less(x: Bound, y: Bound) -> bool
     ensures { result ≡ is_less x y }
 {
     match (x, y) {

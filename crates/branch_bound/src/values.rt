@@ -1,23 +1,59 @@
 // What offers and leaves are worth over domains.
-ghost use Rattle.std.specs.Prelude.{◌≡◌, ◌≤◌, Ok, IfSome, IfNone};
+ghost use Rattle.std.specs.Prelude.{◌≡◌, ◌≤◌, ℕ, Ok, IfOk, IfSome, IfNone};
 ghost use Rattle.agg_base.specs.declared.limits.TheConstants.{DEPTH};
 ghost use Rattle.agg_model.specs.Problem.{IsProblem, areas};
+ghost use Rattle.row_laws.specs.Values.{RowSum};
 ghost use Rattle.row_laws.specs.Fixed.{AreSingle, fixed_value, kind_in};
 ghost use Rattle.row_laws.specs.FirstSums.{plain_sum};
 ghost use Rattle.row_laws.specs.Leaves.{leaf_answer};
+ghost use Rattle.row_laws.specs.declared.leaf.Leaf.{Leaf};
 ghost use Rattle.row_laws.specs.declared.leaf.Leaf.TheVariants.{Sum};
 ghost use Rattle.bound_rows.specs.Domains.{allows, IsFor};
 ghost use Rattle.bound_rows.specs.Offers.{IsValueOf};
 ghost use Rattle.bound_rows.specs.Scratches.{IsScratchFor};
 ghost use Rattle.branch_bound.specs.Trees.{IsTipOver};
 
-use crate::tips::Tip;
+use crate::tips::{Tip, is_less};
+use agg_base::NoMemory;
 use agg_model::Problem;
 use bound_rows::{Bound, Domains, Leaf, LeafProof, RowSum, Scratch, marks};
 use std::alloc::Global;
 
-// The tip over domains: `Fixed` where each area has one class, else the offer where it is usable, else the sum without rows.
+// The tip over domains: `Fixed` where each area has one class; else the offer where it is usable or the sum without rows, or the leaf that its
+// parent had, where that is usable and worth more.
 pub(crate) fn tip_over(
+    alloc: Global,
+    problem: &Problem,
+    domains: &Domains,
+    offer: RowSum,
+    from: &Leaf,
+    depth: u32,
+    share: u64,
+    scratch: &mut Scratch,
+) -> Result<Tip, NoMemory>
+    requires rules { IsProblem problem.now }
+    requires domains { IsFor problem.now domains.now }
+    requires shallow { depth ≤ DEPTH }
+    requires scratch { IsScratchFor problem.now scratch.old }
+    ensures scratch { IsScratchFor problem.now scratch.new }
+    ensures tip { IfOk result (λ tip. IsTipOver problem.now share (λ _ sum. sum ≡ offer) from.now (allows domains.now) depth tip) }
+{
+    if let Some(bound) = single_value(problem, domains, scratch) {
+        return Ok(Tip {
+            leaf: Leaf::Fixed,
+            bound,
+            depth,
+        });
+    }
+    let tip = offered_tip(alloc, problem, domains, offer, depth, share, scratch);
+    match from {
+        Leaf::Fixed => Ok(tip),
+        Leaf::Sum(sum) => better_tip(alloc, problem, domains, tip, sum, share, scratch),
+    }
+}
+
+// The tip of an offer, where it is usable, else of the sum without rows.
+fn offered_tip(
     alloc: Global,
     problem: &Problem,
     domains: &Domains,
@@ -29,17 +65,11 @@ pub(crate) fn tip_over(
     requires rules { IsProblem problem.now }
     requires domains { IsFor problem.now domains.now }
     requires shallow { depth ≤ DEPTH }
+    requires several { ¬ AreSingle problem.now (allows domains.now) (areas problem.now) }
     requires scratch { IsScratchFor problem.now scratch.old }
     ensures scratch { IsScratchFor problem.now scratch.new }
-    ensures tip { IsTipOver problem.now share (λ _ sum. sum ≡ offer) (allows domains.now) depth result }
+    ensures tip { (from : Leaf) → IsTipOver problem.now share (λ _ sum. sum ≡ offer) from (allows domains.now) depth result }
 {
-    if let Some(bound) = single_value(problem, domains, scratch) {
-        return Tip {
-            leaf: Leaf::Fixed,
-            bound,
-            depth,
-        };
-    }
     match usable_value(&offer, problem, domains, share, scratch) {
         Some(bound) => Tip {
             leaf: Leaf::Sum(offer),
@@ -48,6 +78,36 @@ pub(crate) fn tip_over(
         },
         None => plain_tip(alloc, problem, domains, depth, scratch),
     }
+}
+
+// The tip, or one with the sum that its parent had, where that is usable and worth more.
+fn better_tip(
+    alloc: Global,
+    problem: &Problem,
+    domains: &Domains,
+    tip: Tip,
+    sum: &RowSum,
+    share: u64,
+    scratch: &mut Scratch,
+) -> Result<Tip, NoMemory>
+    requires domains { IsFor problem.now domains.now }
+    requires several { ¬ AreSingle problem.now (allows domains.now) (areas problem.now) }
+    requires scratch { IsScratchFor problem.now scratch.old }
+    ensures scratch { IsScratchFor problem.now scratch.new }
+    ensures tip { (offer : RowSum) (d : ℕ) → IsTipOver problem.now share (λ _ s. s ≡ offer) (Sum sum.now) (allows domains.now) d tip → IfOk result (λ better. IsTipOver problem.now share (λ _ s. s ≡ offer) (Sum sum.now) (allows domains.now) d better) }
+{
+    let Some(bound) = usable_value(sum, problem, domains, share, scratch) else {
+        return Ok(tip);
+    };
+    if !is_less(tip.bound, bound) {
+        return Ok(tip);
+    }
+    let sum = sum.copy(alloc)?;
+    Ok(Tip {
+        leaf: Leaf::Sum(sum),
+        bound,
+        depth: tip.depth,
+    })
 }
 
 // What the domains are worth, where each area has one class.
@@ -122,7 +182,7 @@ fn plain_tip(
 }
 
 // The sum without rows.
-fn no_rows(alloc: Global) -> RowSum
+pub(crate) fn no_rows(alloc: Global) -> RowSum
     ensures { result ≡ plain_sum }
 {
     RowSum {

@@ -63,11 +63,11 @@ pub fn start(alloc: Global, problem: &Problem) -> Result<Grouping, StartFault>
     ensures none { (v : ℕ) → result ≡ Err (StartFault.Hopeless v) → (g : Grouping) → ¬ IsFeasible problem.now g }
 {
     let whole = whole_parts(alloc, problem)?;
-    Ok(improved(alloc, problem, whole)?)
+    Ok(improve(alloc, problem, whole)?)
 }
 
 // What the search finds from one region for each part, where its regions come in the order of their least areas; else that grouping.
-fn improved(alloc: Global, problem: &Problem, whole: Grouping) -> Result<Grouping, NoMemory>
+fn improve(alloc: Global, problem: &Problem, whole: Grouping) -> Result<Grouping, NoMemory>
     requires feasible { IsFeasible problem.now whole }
     requires numbered { IsNumberedByLeast problem.now whole }
     requires chosen { IsOneRegionEach problem.now whole }

@@ -1,7 +1,7 @@
 // Areas of one, two and three classes, worked by hand.
 use crate::orders::is_in_order;
-use crate::{StartFault, hopeless_law, one_each_law, parts_law, start};
-use agg_model::{Grouping, Link, Problem, ProblemParts, cost, numbered, parts};
+use crate::{StartFault, cheaper_from, hopeless_law, one_each_law, parts_law, start};
+use agg_model::{Grouping, Link, Problem, ProblemParts, cost, feasible, numbered, parts};
 use std::alloc::Global;
 use std::process::Abort;
 use std::test::Fail;
@@ -174,4 +174,27 @@ fn laws() {
     parts_law();
     hopeless_law();
     one_each_law();
+}
+
+#[test]
+fn better_from_wanted_classes(rt: HostRuntime) -> Result<(), Fail> {
+    let alloc = rt.alloc();
+    let links = [link(0, 1), link(1, 2)];
+    let row = problem(&rt, alloc, &[(0, 2), (1, 2), (0, 2)], &links, &[4, 4])?;
+    // One region of class 1 costs 10 for each end, one of class 0 costs 10 for the middle.
+    let dear = Grouping {
+        region_of: vec![in alloc; 0, 0, 0]?,
+        class_of: vec![in alloc; 1]?,
+    };
+    assert!(rt; numbered(&row, &dear));
+    let mut scratch = vec![in alloc; 0; row.areas() as usize]?;
+    assert!(rt; feasible(&row, &dear, &mut scratch).is_ok());
+    assert_eq!(rt; cost(&row, &dear), 20);
+    let wanted = [0u8; 3];
+    let Some(found) = cheaper_from(alloc, &row, &dear, wanted.as_slice(), 10)? else {
+        return Err(Fail::new("nothing cheaper"));
+    };
+    assert!(rt; same(&found, &[0, 0, 0], &[0]));
+    assert!(rt; cheaper_from(alloc, &row, &found, wanted.as_slice(), 10)?.is_none());
+    Ok(())
 }

@@ -18,7 +18,7 @@ use Rattle.row_laws.specs.Leaves.{IsSoundLeaf, leaf_answer}
 use Rattle.row_laws.specs.Trees.{only, without, IsSoundTree, split_count}
 use Rattle.row_laws.proofs.VoidLemmas.{within_part}
 use Rattle.branch_bound.specs.Outcomes.{IsSearched}
-use Rattle.branch_bound.specs.Trees.{IsKept, IsKeptLeaf}
+use Rattle.branch_bound.specs.Trees.{no_parent, IsTaken, IsKept, IsKeptLeaf}
 use Rattle.branch_bound.proofs.GrownLemmas.{AreBelow, only_below, without_below}
 use Rattle.cert_text.specs.Lines.{IsRowInRange, IsMultiplier}
 use Rattle.cert_text.specs.TreeTexts.{HasTreeSpelling, IsSumInRange, IsLeafInRange, IsTreeInRange, leaf_marks, tree_marks}
@@ -61,38 +61,52 @@ plain_in_range = record { some = omega arith; most = omega arith; void = λ e. r
 abbrev IsStatableAll : (Allowed → RowSum → Type 0) → Type 0
 IsStatableAll fits = (f : Allowed) (s : RowSum) → fits f s → AreStatable s.rows
 
-leaf_in_range : (p : Problem) (share : ℕ) (fits : Allowed → RowSum → Type 0) (c : ℤ) (leaf : Leaf) (f : Allowed) → IsProblem p → share ≤ MARKS → IsStatableAll fits → IsKeptLeaf p share fits c leaf f
-    → IsLeafInRange leaf × (leaf_marks leaf ≤ share)
-leaf_in_range p share fits c Fixed f ok few stated kept = (tt, omega arith)
-leaf_in_range p share fits c (Sum s) f ok few stated kept =
-    let from = kept.offered (λ single. no_fixed s (kept.single single)) in
-    elim from.2 [
-      | inl taken ↦ (
-          let same = same_sum s from.0 taken.0 in
-          let marks = taken.1.1.marks in
-          subst (λ (x : RowSum). IsSumInRange x × (mark_count x.rows ≤ share)) (sym same) (sum_in_range p from.0 ok taken.1.1.sound (stated f from.0 from.1), omega arith)
+-- the leaf can be stated, and has at most so many marks
+abbrev IsSmall : ℕ → Leaf → Type 0
+IsSmall share leaf = IsLeafInRange leaf × (leaf_marks leaf ≤ share)
+
+no_parent_small : (share : ℕ) → IsSmall share no_parent
+no_parent_small share = (plain_in_range, omega arith)
+
+-- what is made of an offer that fits and of a parent's leaf that is small is small
+taken_small : (p : Problem) (share : ℕ) (fits : Allowed → RowSum → Type 0) (from : Leaf) (f : Allowed) (offer : RowSum) (leaf : Leaf) → IsProblem p → IsStatableAll fits → fits f offer → IsSmall share from → IsTaken p share f from offer leaf
+    → share ≤ MARKS → IsSmall share leaf
+taken_small p share fits from f offer leaf ok stated fit small taken few =
+    elim taken.source [
+      | inl own ↦ (
+          let marks = own.1.1.marks in
+          subst (IsSmall share) (sym own.0) (sum_in_range p offer ok own.1.1.sound (stated f offer fit), omega arith)
           )
-      | inr other ↦ subst (λ (x : RowSum). IsSumInRange x × (mark_count x.rows ≤ share)) (sym (same_sum s plain_sum other.0)) (plain_in_range, omega arith)
+      | inr other ↦ elim other [
+        | inl same ↦ subst (IsSmall share) (sym same) small
+        | inr plain ↦ subst (IsSmall share) (sym plain) (no_parent_small share)
+      ]
     ]
+
+leaf_in_range : (p : Problem) (share : ℕ) (fits : Allowed → RowSum → Type 0) (c : ℤ) (from leaf : Leaf) (f : Allowed) → IsProblem p → share ≤ MARKS → IsStatableAll fits → IsSmall share from → IsKeptLeaf p share fits c from leaf f
+    → IsSmall share leaf
+leaf_in_range p share fits c from Fixed f ok few stated small kept = (tt, omega arith)
+leaf_in_range p share fits c from (Sum s) f ok few stated small kept =
+    let made = kept.offered (λ single. no_fixed s (kept.single single)) in
+    taken_small p share fits from f made.0 (Sum s) ok stated made.1 small made.2 few
   where
     no_fixed : (s : RowSum) → Sum s ≡ Fixed → ⊥
     no_fixed s h = cc
 
-    same_sum : (s t : RowSum) → Sum s ≡ Sum t → s ≡ t
-    same_sum s t h = cc
-
 marks_of_both : (a b x y share : ℕ) → a ≤ (x + 1) * share → b ≤ (y + 1) * share → a + b ≤ (x + y + 1 + 1) * share
 marks_of_both a b x y share h k = grind arith
 
-tree_in_range : (p : Problem) (share : ℕ) (fits : Allowed → RowSum → Type 0) (c : ℤ) (tree : Tree Leaf) (f : Allowed) → IsProblem p → share ≤ MARKS → IsStatableAll fits → AreBelow p p.classes f
-    → IsSoundTree IsSoundLeaf leaf_answer p tree f → IsKept p share fits c tree f → IsTreeInRange tree × (tree_marks tree ≤ (split_count tree + 1) * share)
-tree_in_range p share fits c (LeafNode leaf) f ok few stated below sound kept =
-    let leaf_is = leaf_in_range p share fits c leaf f ok few stated kept in
+tree_in_range : (p : Problem) (share : ℕ) (fits : Allowed → RowSum → Type 0) (c : ℤ) (from : Leaf) (tree : Tree Leaf) (f : Allowed) → IsProblem p → share ≤ MARKS → IsStatableAll fits → IsSmall share from → AreBelow p p.classes f
+    → IsSoundTree IsSoundLeaf leaf_answer p tree f → IsKept p share fits c from tree f → IsTreeInRange tree × (tree_marks tree ≤ (split_count tree + 1) * share)
+tree_in_range p share fits c from (LeafNode leaf) f ok few stated small below sound kept =
+    let leaf_is = leaf_in_range p share fits c from leaf f ok few stated small kept in
     let marks = leaf_is.1 in
     (leaf_is.0, omega arith)
-tree_in_range p share fits c (Split' v k x with y rest) f ok few stated below sound kept =
-    let first = tree_in_range p share fits c with (only f v k) ok few stated (only_below p p.classes f v k sound.0 sound.1 below) sound.3 kept.1 in
-    let second = tree_in_range p share fits c rest (without f v k) ok few stated (without_below p p.classes f v k below) sound.4 kept.2 in
+tree_in_range p share fits c from (Split' v k x with y rest) f ok few stated small below sound kept =
+    let was = kept.0.1 in
+    let had = taken_small p share fits from f was.0 kept.0.0 ok stated was.1 small was.2 few in
+    let first = tree_in_range p share fits c kept.0.0 with (only f v k) ok few stated had (only_below p p.classes f v k sound.0 sound.1 below) sound.3 kept.1 in
+    let second = tree_in_range p share fits c kept.0.0 rest (without f v k) ok few stated had (without_below p p.classes f v k below) sound.4 kept.2 in
     let areas_few = ok.few_areas in
     let classes_few = ok.few_classes in
     let area = sound.0 in
@@ -117,7 +131,7 @@ pub search_spelling : (p : Problem) (splits : ℕ) (fits : Allowed → RowSum �
 search_spelling p splits fits c b tree ok most stated is =
     let few = is.few in
     let root = is.proves.root in
-    let range = tree_in_range p (MARKS / (splits + 1)) fits c tree is.proves.allowed ok (share_most splits) stated root.only is.proves.sound is.kept in
+    let range = tree_in_range p (MARKS / (splits + 1)) fits c no_parent tree is.proves.allowed ok (share_most splits) stated (no_parent_small (MARKS / (splits + 1))) root.only is.proves.sound is.kept in
     record {
       in_range = range.0;
       depth = is.shallow;

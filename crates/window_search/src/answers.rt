@@ -37,6 +37,44 @@ pub fn search(
     ensures cheap { IfOk result (λ found. cost problem.now found ≤ℤ cost problem.now grouping.now) }
 {
     let found = found(alloc, problem, grouping, turns)?;
+    no_worse(alloc, problem, grouping, found)
+}
+
+/// A grouping that is numbered for the problem and costs no more than the given one, found by so many turns from wanted classes, one for each
+/// area. Where the given one is feasible, the answer is too. The same input gives the same answer on every machine. Its one refusal is want of
+/// memory.
+///
+/// An area that has no wanted class of the problem begins with its class in the given grouping. The search makes regions of the wanted classes
+/// that are heavy enough, takes its turns where the given grouping has other classes, and goes back to the given grouping in each part where
+/// that is better. The time grows with the areas, the links and the turns; with few turns, less is done to the wanted classes too.
+pub fn search_near(
+    alloc: Global,
+    problem: &Problem,
+    grouping: &Grouping,
+    wanted: &[u8],
+    turns: u64,
+) -> Result<Grouping, NoMemory>
+    requires { IsNumbered problem.now grouping.now }
+    ensures numbered { IfOk result (λ found. IsNumbered problem.now found) }
+    ensures feasible { IsFeasible problem.now grouping.now → IfOk result (λ found. IsFeasible problem.now found) }
+    ensures cheap { IfOk result (λ found. cost problem.now found ≤ℤ cost problem.now grouping.now) }
+{
+    let found = found_near(alloc, problem, grouping, wanted, turns)?;
+    no_worse(alloc, problem, grouping, found)
+}
+
+// What was found, where it is feasible and costs no more than the given grouping; else that.
+fn no_worse(
+    alloc: Global,
+    problem: &Problem,
+    grouping: &Grouping,
+    found: Grouping,
+) -> Result<Grouping, NoMemory>
+    requires { IsNumbered problem.now grouping.now }
+    ensures numbered { IfOk result (λ found. IsNumbered problem.now found) }
+    ensures feasible { IsFeasible problem.now grouping.now → IfOk result (λ found. IsFeasible problem.now found) }
+    ensures cheap { IfOk result (λ found. cost problem.now found ≤ℤ cost problem.now grouping.now) }
+{
     let mut scratch = vec![in alloc; 0; problem.areas() as usize]?;
     if is_no_worse(problem, &found, grouping, &mut scratch) {
         Ok(found)
@@ -82,6 +120,44 @@ fn found(
     searcher.grouping(alloc, &net)
 }
 
+// What the search finds from wanted classes.
+fn found_near(
+    alloc: Global,
+    problem: &Problem,
+    grouping: &Grouping,
+    wanted: &[u8],
+    turns: u64,
+) -> Result<Grouping, NoMemory>
+    requires { IsNumbered problem.now grouping.now }
+{
+    let net = Net::of(alloc, problem)?;
+    let parts = parts(alloc, problem)?;
+    let given = classes_of(alloc, problem, grouping)?;
+    let first = first_classes(alloc, net.classes(), &given, wanted)?;
+    let mut searcher = Searcher::of(alloc, &net, first)?;
+    searcher.grow_within(&net, turns.saturating_mul(TURN_LOOKS).min(MOST_LOOKS / 2));
+    searcher.join(&net);
+    let places = searcher.places_apart(alloc, &net, &given)?;
+    searcher.take_turns_at(&net, &places, turns);
+    searcher.choose(alloc, &net, &parts, &given)?;
+    searcher.grouping(alloc, &net)
+}
+
+// The wanted class of each area, where it is a class, else the given one.
+fn first_classes(
+    alloc: Global,
+    classes: u8,
+    given: &[u8],
+    wanted: &[u8],
+) -> Result<Vec<u8>, NoMemory> {
+    let mut first = Vec::with_capacity(alloc, given.len())?;
+    for area in 0..given.len() {
+        let class = at(wanted, area, classes);
+        first.push(if class < classes { class } else { given[area] })?;
+    }
+    Ok(first)
+}
+
 // The class of each area.
 fn classes_of(alloc: Global, problem: &Problem, grouping: &Grouping) -> Result<Vec<u8>, NoMemory>
     requires { IsNumbered problem.now grouping.now }
@@ -110,6 +186,34 @@ impl Searcher {
                 break;
             };
             self.turn(net, area as u32, turn < areas);
+        }
+    }
+
+    // The areas whose classes differ from the given ones.
+    fn places_apart(&self, alloc: Global, net: &Net, given: &[u8]) -> Result<Vec<u32>, NoMemory> {
+        let mut places = Vec::new(alloc);
+        for area in 0..net.areas() {
+            if self.state.class(area) != at(given, area as usize, 0) {
+                places.push(area)?;
+            }
+        }
+        Ok(places)
+    }
+
+    // Takes so many turns at these areas, one after the other, or fewer where they are much work.
+    fn take_turns_at(&mut self, net: &Net, places: &[u32], turns: u64) {
+        let count = places.len() as u64;
+        let work = turns.saturating_mul(TURN_LOOKS).min(MOST_LOOKS / 2);
+        let end = self.state.work().saturating_add(work);
+        for turn in 0..turns {
+            if self.state.work() > end {
+                break;
+            }
+            let Some(place) = turn.checked_rem(count) else {
+                break;
+            };
+            let area = at(places, place as usize, 0);
+            self.turn(net, area, turn < count);
         }
     }
 

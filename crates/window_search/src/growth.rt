@@ -30,6 +30,11 @@ impl Searcher {
             .saturating_mul(LOOKS)
             .saturating_add(MORE_LOOKS)
             .min(MOST_LOOKS);
+        self.grow_within(net, budget);
+    }
+
+    // The same, with a most number of looks for the first try.
+    pub(crate) fn grow_within(&mut self, net: &Net, budget: u64) {
         if self.sweeps(net, TIMES, budget) != Sweep::Done {
             self.has_pairs = false;
             let _ = self.sweeps(net, 1, u64::MAX);

@@ -1,6 +1,6 @@
 // Small problems whose least costs are worked by hand.
 use crate::numbers::Numbers;
-use crate::search;
+use crate::{search, search_near};
 use agg_model::{Grouping, Link, Problem, ProblemParts, cost, feasible, numbered};
 use std::alloc::Global;
 use std::process::Abort;
@@ -89,6 +89,34 @@ fn single_cells_join_their_patches(rt: HostRuntime) -> Result<(), Fail> {
         let mut scratch = vec![in alloc; 0; tile.areas() as usize]?;
         assert!(rt; feasible(&tile, &found, &mut scratch).is_ok());
     }
+    Ok(())
+}
+
+#[test]
+fn wanted_classes_are_made_feasible(rt: HostRuntime) -> Result<(), Fail> {
+    let alloc = rt.alloc();
+    let tile = tile(&rt, alloc)?;
+    let whole = grouping(alloc, &[0; 8], &[0])?;
+    assert!(rt; numbered(&tile, &whole));
+    // The own classes; all of the third class, which is feasible too, but dearer; no classes; and numbers that are no classes.
+    let own = [0u8, 1, 1, 2, 0, 1, 2, 2];
+    let third = [2u8; 8];
+    let none: [u8; 0] = [];
+    let wrong = [9u8; 8];
+    for wanted in [
+        own.as_slice(),
+        third.as_slice(),
+        none.as_slice(),
+        wrong.as_slice(),
+    ] {
+        let found = search_near(alloc, &tile, &whole, wanted, 100)?;
+        assert!(rt; numbered(&tile, &found));
+        assert!(rt; cost(&tile, &found) <= cost(&tile, &whole));
+        let mut scratch = vec![in alloc; 0; tile.areas() as usize]?;
+        assert!(rt; feasible(&tile, &found, &mut scratch).is_ok());
+    }
+    let found = search_near(alloc, &tile, &whole, own.as_slice(), 100)?;
+    assert_eq!(rt; cost(&tile, &found), 7_848);
     Ok(())
 }
 

@@ -65,12 +65,12 @@ returns-clause-state g c =
     let left = c.in_ok-left.ensures in
     let right = c.in_ok-right.ensures in
     let less = right.less in
-    split_keeps p share (λ f s. g.P.BoundProvider.fits c.args.provider.now p f share s) c.args.self.now _ (allows c.in_ok-place.place.domains) (allows h.with) (allows h.rest) h.area h.class h.depth c.in_ok-left.left c.in_ok-right.right c.requires.state c.requires.may_split
-    place.allowed halves.split halves.with_allows halves.rest_allows (halves.depth ∙ ap (λ n. n + 1) place.depth) (right.whole ∙ left.whole)
+    split_keeps p share (λ f s. g.P.BoundProvider.fits c.args.provider.now p f share s) c.args.self.now _ (allows c.in_ok-place.place.domains) (allows h.with) (allows h.rest) h.area h.class h.depth h.leaf c.in_ok-left.left c.in_ok-right.right c.requires.state c.requires.may_split
+    place.allowed halves.split halves.with_allows halves.rest_allows (halves.depth ∙ ap (λ n. n + 1) place.depth) (halves.leaf ∙ place.leaf) (right.whole ∙ left.whole)
     (c.grow.ensures ∙ (ap (λ (x : Growth). grown (shape_of x) (shape_of c.in_ok-fork.fork)) (right.growth ∙ left.growth) ∙ ap (λ (y : Shape). grown (shape_of c.args.self.now.growth) y) c.in_ok-fork.ensures))
     (no_dearer _ _ _ right.less left.less) right.best right.scratch
     (left.tip, cheaper_still _ _ c.in_ok-left.left right.less left.cheap)
-    (tip_same p share (λ f s. g.P.BoundProvider.fits c.ask.new.provider p f share s) (λ f s. g.P.BoundProvider.fits c.args.provider.now p f share s) (allows h.rest) h.depth c.in_ok-right.right (λ s. (left.fits p (allows h.rest) share s).0) right.tip, right.cheap)
+    (tip_same p share (λ f s. g.P.BoundProvider.fits c.ask.new.provider p f share s) (λ f s. g.P.BoundProvider.fits c.args.provider.now p f share s) h.leaf (allows h.rest) h.depth c.in_ok-right.right (λ s. (left.fits p (allows h.rest) share s).0) right.tip, right.cheap)
 
 pub returns-clause-count : goal.returns-clause-count
 returns-clause-count g c =

@@ -4,7 +4,7 @@ use Rattle.agg_model.specs.Problem.{Grouping}
 use Rattle.greedy_start.specs.Orders.{IsInOrder}
 use Rattle.greedy_start.proofs.OrderSteps.{in_order_numbered}
 use Rattle.greedy_start.proofs.OneEachLemmas.{no_dearer}
-use Rattle.greedy_start.proofs.starts.improved.Goals as goal
+use Rattle.greedy_start.proofs.starts.improve.Goals as goal
 
 pub returns-then-is_in_order-clause-found : goal.returns-then-is_in_order-clause-found
 returns-then-is_in_order-clause-found c =
