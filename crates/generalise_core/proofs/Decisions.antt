@@ -14,7 +14,7 @@ use Rattle.generalise_core.specs.declared.plan.Plan.{Plan}
 use Rattle.generalise_core.specs.declared.stop.Stop.TheVariants as stop
 
 -- a shelf that is as it was
-unchanged : (old new : ShelfState) → new ≡ old → OnlyFetches old new
+pub unchanged : (old new : ShelfState) → new ≡ old → OnlyFetches old new
 unchanged old new same = subst (λ n. n ≡ record old { fetch_faults = n.fetch_faults; missed = n.missed }) (sym same) refl
 
 pub files_planned : (old new : ShelfState) (r : Request) (map table : List ℕ) (result : Result Plan NoPlan)

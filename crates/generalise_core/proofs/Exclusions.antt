@@ -27,10 +27,10 @@ pub told_text : (files : Option Files) (m : Files) (name : List ℕ) (limit : �
     → files ≡ Some m → IsText files name limit bytes → bytes ≡ text_at m name
 told_text files m name limit bytes told text = subst (λ f. IfSome f (λ m. bytes ≡ text_at m name)) told text.told
 
-one_text : (m : Files) (name : List ℕ) (limit : ℕ) (a b : List ℕ) → IsText (Some m) name limit a → IsText (Some m) name limit b → a ≡ b
+pub one_text : (m : Files) (name : List ℕ) (limit : ℕ) (a b : List ℕ) → IsText (Some m) name limit a → IsText (Some m) name limit b → a ≡ b
 one_text m name limit a b h k = told_text (Some m) m name limit a refl h ∙ sym (told_text (Some m) m name limit b refl k)
 
-not_too_long : (m : Files) (name : List ℕ) (limit : ℕ) (bytes : List ℕ) → IsText (Some m) name limit bytes → ¬ IsTooLong (Some m) name limit
+pub not_too_long : (m : Files) (name : List ℕ) (limit : ℕ) (bytes : List ℕ) → IsText (Some m) name limit bytes → ¬ IsTooLong (Some m) name limit
 not_too_long m name limit bytes text long =
     let e = told_text (Some m) m name limit bytes refl text in
     let fits : length (text_at m name) ≤ limit = subst (λ b. length b ≤ limit) e text.fits in

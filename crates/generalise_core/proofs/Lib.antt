@@ -7,3 +7,7 @@ pub mod Exclusions
 pub mod RunLemmas
 pub mod Headlines
 pub mod Plannings
+pub mod CheckWordLemmas
+pub mod CheckStepLemmas
+pub mod CheckFiles
+pub mod CheckEnds

@@ -15,6 +15,7 @@ use Rattle.generalise_core.specs.Codes.{status_of, MayEndAs, MayFailAs}
 use Rattle.cert_text.specs.CertTexts.{spelling}
 use Rattle.cert_text.specs.declared.certificate.CertStatus.{CertStatus}
 use Rattle.cert_text.specs.declared.certificate.CertStatus.TheVariants.{Optimal}
+use Rattle.cert_text.specs.declared.certificate.CertStatus.TheVariants as cert
 use Rattle.generalise_core.specs.declared.plan.Plan.{Plan}
 use Rattle.generalise_core.specs.declared.stop.Stop.{Stop}
 use Rattle.generalise_core.specs.declared.stop.Stop.TheVariants as stop
@@ -102,7 +103,7 @@ pub fails_any : (ends result : Status) → ends ≡ status.ReadFault → MayEndA
 fails_any ends result e may = (Optimal, fails_as (status_of Optimal) ends result e may)
 
 -- what the run ends with is what stopped it, where that is neither a fault of putting nor out of memory
-ended : (ends result wanted : Status) → MayEndAs ends result → result ≡ wanted → wanted ≢ status.WriteFault → wanted ≢ status.Memory → ends ≡ wanted
+pub ended : (ends result wanted : Status) → MayEndAs ends result → result ≡ wanted → wanted ≢ status.WriteFault → wanted ≢ status.Memory → ends ≡ wanted
 ended ends result wanted may e f g =
     elim may [
       | inl same ↦ sym same ∙ e
@@ -125,7 +126,7 @@ as_refused old between new r words why result spelled is may heard e =
     }
 
 -- a line that is said after a fetch
-said_after : (old between new : ShelfState) (line : List ℕ) → OnlyFetches old between → new ≡ with_line between line
+pub said_after : (old between new : ShelfState) (line : List ℕ) → OnlyFetches old between → new ≡ with_line between line
     → (new.said ≡ with_said old.said line) × (new.fetch_faults ≡ between.fetch_faults) × (new.missed ≡ between.missed) × OnlyMisses old new
 said_after old between new line fetches is = (
   ap (λ s. s.said) is ∙ ap (λ s. with_said s.said line) fetches,
@@ -155,3 +156,32 @@ as_missed old between new r words why result spelled is fetches may heard e =
     missed_by old between new r words stop.MapTooLong spelled is e after = (cc)
     missed_by old between new r words stop.TableTooLong spelled is e after = (cc)
     missed_by old between new r words (stop.Refused line) spelled is e after = (cc)
+
+-- ---- no verdict
+
+-- a run that is to end otherwise does not end as a check that found a flaw
+pub never_invalid : (ends result : Status) → ends ≢ status.Invalid → MayEndAs ends result → result ≢ status.Invalid
+never_invalid ends result other may e =
+    elim may [
+      | inl same ↦ other (sym same ∙ e)
+      | inr more ↦ elim more [ inl fault ↦ apart_fault (sym fault ∙ e) | inr memory ↦ apart_memory (sym memory ∙ e) ]
+    ]
+  where
+    apart_fault : status.WriteFault ≡ status.Invalid → ⊥
+    apart_fault e = cc
+
+    apart_memory : status.Memory ≡ status.Invalid → ⊥
+    apart_memory e = cc
+
+pub answer_never : (s : CertStatus) → status_of s ≢ status.Invalid
+answer_never Optimal e = cc
+answer_never cert.Within e = cc
+answer_never cert.Hopeless e = cc
+
+pub stop_never : (why : Stop) → status_of_stop why ≢ status.Invalid
+stop_never stop.Usage e = cc
+stop_never stop.MapMissed e = cc
+stop_never stop.TableMissed e = cc
+stop_never stop.MapTooLong e = cc
+stop_never stop.TableTooLong e = cc
+stop_never (stop.Refused line) e = cc

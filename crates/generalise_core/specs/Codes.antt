@@ -1,7 +1,7 @@
 -- The exit code of each status, the status of each kind of answer, and how else a run may end.
 use Rattle.std.specs.Prelude.{◌≡◌, ◌⊎◌, ℕ}
 use Rattle.generalise_core.specs.declared.status.Status.{Status}
-use Rattle.generalise_core.specs.declared.status.Status.TheVariants.{Done, Within, Hopeless, Usage, Refused, Memory, ReadFault, WriteFault}
+use Rattle.generalise_core.specs.declared.status.Status.TheVariants.{Done, Within, Hopeless, Invalid, Usage, Refused, Memory, ReadFault, WriteFault}
 use Rattle.cert_text.specs.declared.certificate.CertStatus.{CertStatus}
 use Rattle.cert_text.specs.declared.certificate.CertStatus.TheVariants as cert
 
@@ -9,6 +9,7 @@ abbrev pub code_of : Status → ℕ
 code_of Done = 0
 code_of Within = 3
 code_of Hopeless = 4
+code_of Invalid = 5
 code_of Usage = 64
 code_of Refused = 65
 code_of Memory = 70

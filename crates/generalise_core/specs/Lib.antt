@@ -12,3 +12,10 @@ pub mod FileTexts
 pub mod Runs
 pub mod Plans
 pub mod PlanDues
+pub mod CheckWords
+pub mod CheckOrders
+pub mod CheckLines
+pub mod CheckHalts
+pub mod Checks
+pub mod CheckRuns
+pub mod CheckSteps

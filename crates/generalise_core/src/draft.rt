@@ -87,6 +87,13 @@ impl<'a> Draft<'a> {
         self.value(setting).is_none()
     }
 
+    /// Whether a number of splits is said.
+    pub(crate) fn has_splits(&self) -> bool
+        ensures { IsTrue result ↔ (¬ (self.now.splits ≡ None)) }
+    {
+        !self.is_without(Setting::Splits)
+    }
+
     // The word of the format and the files, where they are said.
     fn names(&self) -> Option<Names<'a>>
         ensures found { IfSome result (λ n. SaysNames self.now n.format.now n.map.now n.table.now n.out.now n.certificate.now) }

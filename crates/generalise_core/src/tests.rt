@@ -2,7 +2,7 @@
 use super::*;
 use agg_base::{NoMemory, Text, Words};
 use crew_work::Alone;
-use shelf_io::{MemShelf, SureShelf, are_names_distinct};
+use shelf_io::{MemShelf, Shelf, SureShelf, are_names_distinct};
 use std::alloc::Global;
 use std::process::Abort;
 use std::test::Fail;
@@ -23,6 +23,15 @@ fn words_of(alloc: Global, words: &[&str]) -> Result<Words, NoMemory> {
         texts.push(Text::of(alloc, word)?)?;
     }
     Ok(Words::of(texts))
+}
+
+// How a run over the shelf ends. What it promises is left out: the tests hold what comes of it against texts.
+pub(crate) fn status_over<S: Shelf>(
+    alloc: Global,
+    words: &[&str],
+    shelf: &mut S,
+) -> Result<Status, NoMemory> {
+    Ok(run(alloc, &words_of(alloc, words)?, shelf, &Alone))
 }
 
 // The files that a run begins with.
@@ -64,7 +73,7 @@ pub(crate) fn ending_of(
     let files = files_of(alloc, map, table)?;
     assert!(rt; are_names_distinct(&files));
     let mut shelf = MemShelf::new(alloc, files, Vec::from_slice(alloc, failing)?);
-    let code = run(alloc, &words_of(alloc, words)?, &mut shelf, &Alone).code();
+    let code = status_over(alloc, words, &mut shelf)?.code();
     Ok(Ending {
         code,
         said: Vec::from_slice(alloc, shelf.said())?,
@@ -499,7 +508,7 @@ fn a_missing_table_is_a_read_fault(rt: HostRuntime) -> Result<(), Fail> {
     files.push((Text::of(alloc, "m")?, Vec::from_slice(alloc, MAP)?))?;
     assert!(rt; are_names_distinct(&files));
     let mut shelf = MemShelf::new(alloc, files, Vec::new(alloc));
-    let status = run(alloc, &words_of(alloc, &FORM)?, &mut shelf, &Alone);
+    let status = status_over(alloc, &FORM, &mut shelf)?;
     assert_eq!(rt; status, Status::ReadFault);
     assert_eq!(rt; shelf.said(), b"read fault: table\n".as_slice());
     Ok(())
@@ -511,7 +520,7 @@ fn a_sure_shelf_takes_all(rt: HostRuntime) -> Result<(), Fail> {
     let files = files_of(alloc, MAP, TABLE)?;
     assert!(rt; are_names_distinct(&files));
     let mut shelf = SureShelf::new(alloc, files);
-    let status = run(alloc, &words_of(alloc, &FORM)?, &mut shelf, &Alone);
+    let status = status_over(alloc, &FORM, &mut shelf)?;
     assert_eq!(rt; status, Status::Done);
     assert!(rt; shelf.file("c").is_some_and(|bytes| bytes.starts_with(HEAD)));
     assert_eq!(rt; shelf.file("o"), Some(DRAWN));

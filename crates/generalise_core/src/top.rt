@@ -154,6 +154,7 @@ pub(crate) fn generalise<S: Shelf, W: Crew>(
     ensures read_fault { (words : List (List ℕ)) → Spells words (request order.now) → result ≡ Status.ReadFault → SaysReadFault (S.state shelf.old) (S.state shelf.new) words }
     ensures write_fault { result ≡ Status.WriteFault → HasRisen (S.state shelf.old).put_faults (S.state shelf.new).put_faults }
     ensures quiet { result ≢ Status.WriteFault → (S.state shelf.new).put_faults ≡ (S.state shelf.old).put_faults }
+    ensures unjudged { result ≢ Status.Invalid }
 
     // Whatever comes: only due texts are stored, and only a due line is said, the report after all is stored.
     ensures partly { (words : List (List ℕ)) → Spells words (request order.now) → KeepsPartly (S.state shelf.old).files (S.state shelf.new).files words }
@@ -168,20 +169,13 @@ pub(crate) fn generalise<S: Shelf, W: Crew>(
 
 /// Generalises a map: reads the words and the files that they name, stores the certificate and the written map, and says the report.
 ///
-/// The words are `generalise FORMAT MAP TABLE OUT CERT`, and FORMAT is `grid`, `topojson` or `geojson`. Anywhere behind the first there may
-/// be options: `--splits N` for at most N splits of the tree, up to 1,000,000 in one to seven digits, and 10,000 without it; `--class NAME`
-/// with `topojson` and `geojson` for the property that has the class texts, which is `class` without it; `--object NAME` with `topojson` for
-/// the object that is read, which is the only one without it. Then these steps are taken, and the first that fails decides: MAP is fetched,
-/// then TABLE; the length of each is looked at as it comes; the text of the map and that of the table are read; the coverage is checked; the
-/// problem is made and answered; CERT is stored, then OUT unless no grouping is feasible, and the report is said.
-///
-/// - `Usage` comes exactly where the words are in no such form, and the usage is said.
-/// - `Refused` comes exactly where one of the steps refuses a file, with the line that says which and why.
-/// - `Done`, `Within` and `Hopeless` come where all is stored and said, as the bound is the cost, is below it, or no grouping is feasible.
-///   With `Within` the tree has exactly N splits, or each of its leaves of that bound stands at the greatest depth.
-/// - `ReadFault` comes only where a fetch failed, with the line that says of which file, and `WriteFault` only where a store or a say did.
-/// - `Memory` comes where memory runs out, at any point.
-pub fn run<S: Shelf, W: Crew>(alloc: Global, words: &Words, shelf: &mut S, crew: &W) -> Status
+/// The words, the steps and the answers are those of `run` for this command; words of every other form get the usage.
+pub(crate) fn generalise_words<S: Shelf, W: Crew>(
+    alloc: Global,
+    words: &Words,
+    shelf: &mut S,
+    crew: &W,
+) -> Status
     // Done and Within: CERT and OUT are stored and the report is said, and these state an answer of which all this holds.
     ensures feasible { HasGrouping result → PutsOut (S.state shelf.old) (S.state shelf.new) words.now (λ a. IsFeasible a.problem a.outcome.certificate.grouping) }
     ensures cost { HasGrouping result → PutsOut (S.state shelf.old) (S.state shelf.new) words.now (λ a. a.outcome.certificate.cost ≡ Some (cost a.problem a.outcome.certificate.grouping)) }
@@ -218,6 +212,7 @@ pub fn run<S: Shelf, W: Crew>(alloc: Global, words: &Words, shelf: &mut S, crew:
     ensures read_fault { result ≡ Status.ReadFault → SaysReadFault (S.state shelf.old) (S.state shelf.new) words.now }
     ensures write_fault { result ≡ Status.WriteFault → HasRisen (S.state shelf.old).put_faults (S.state shelf.new).put_faults }
     ensures quiet { result ≢ Status.WriteFault → (S.state shelf.new).put_faults ≡ (S.state shelf.old).put_faults }
+    ensures unjudged { result ≢ Status.Invalid }
 
     // Whatever comes: only due texts are stored, and only a due line is said, the report after all is stored.
     ensures partly { KeepsPartly (S.state shelf.old).files (S.state shelf.new).files words.now }

@@ -1,5 +1,5 @@
 -- The texts of a map's frame are numbers of JSON, for all numbers of a value that a text spells are.
-use Rattle.std.proofs.Common.{◌≡◌, ◌⊎◌, inl, inr, ℕ, Bool, true, false, List, [], ◌∷◌, Option, None, Some, cond, codes, sym, subst}
+use Rattle.std.proofs.Common.{◌≡◌, ◌⊎◌, inl, inr, ℕ, Bool, true, false, List, [], ◌∷◌, Option, None, Some, cond, codes, sym, ap, subst}
 use Rattle.std.specs.Option.{option_or}
 use Rattle.std.specs.Str.{bytes_eq}
 use Rattle.json_text.specs.Tree.{Json, Null, Truth, Number, Str, Array, Object, Items, no_items, item, Members, no_members, member, array, last_of, member_of}
@@ -8,9 +8,11 @@ use Rattle.json_text.specs.Spelling.{SpellsBare, SpellsItems, SpellsMoreItems, S
 use Rattle.plane_edge.specs.declared.frame.Frame.{Frame}
 use Rattle.plane_edge.specs.declared.frame.Frame.TheVariants.{Plain, Scaled}
 use Rattle.map_values.specs.Frames.{IsNumberFrame}
+use Rattle.map_values.specs.Layers.{Layer}
 use Rattle.grid_reader.proofs.FrameLemmas as grids
 use Rattle.topo_reader.specs.Arcs.{SpellsFrame}
-use Rattle.generalise_steps.specs.MapTexts.{FrameLaw}
+use Rattle.generalise_steps.specs.MapTexts.{SpellsMap, FrameLaw}
+use Rattle.generalise_steps.specs.declared.map_format.Format.{Format}
 use Rattle.generalise_steps.specs.declared.map_format.Format.TheVariants.{Grid, TopoJson, GeoJson}
 
 -- each number of the value is a number of JSON

@@ -5,17 +5,18 @@ use Rattle.std.proofs.lemmas.Result.{IfOk-weaker}
 use Rattle.agg_base.specs.Texts.{text_of_words}
 use Rattle.plane_edge.specs.declared.edge.Edge.{Edge}
 use Rattle.plane_edge.specs.declared.spot.Spot.{Spot}
+use Rattle.plane_edge.specs.declared.frame.Limit.{Limit}
 use Rattle.class_table.specs.declared.fault.Why.{Why}
 use Rattle.class_table.specs.declared.fault.TableFault.TheVariants as tables
 use Rattle.coverage_check.specs.declared.fault.CoverFault.TheVariants as cover
-use Rattle.generalise_steps.specs.FaultLines.{refusal, table_line, cover_line, weight_line, why_word, edge_words, spot_words}
+use Rattle.generalise_steps.specs.FaultLines.{refusal, limit_word, table_line, cover_line, weight_line, why_word, edge_words, spot_words}
 
 -- the text of what was printed is the line
 pub text_is : {E : Type 0} (r : Result (List ℕ) E) (now printed line : List ℕ) → IfOk r (λ t. t ≡ now) → now ≡ printed → printed ≡ line → IfOk r (λ t. t ≡ line)
 text_is r now printed line told e f = IfOk-weaker r (λ t. t ≡ now) (λ t. t ≡ line) (λ t h. h ∙ (e ∙ f)) told
 
 -- two words and the end of the line
-two : (a b : List ℕ) → a ++ (32 ∷ (b ++ 10 ∷ [])) ≡ (a ++ (32 ∷ b)) ++ 10 ∷ []
+pub two : (a b : List ℕ) → a ++ (32 ∷ (b ++ 10 ∷ [])) ≡ (a ++ (32 ∷ b)) ++ 10 ∷ []
 two a b = sym (append_assoc a (32 ∷ b) (10 ∷ []))
 
 -- words behind words
@@ -23,8 +24,18 @@ text_of_words-more : (x y : List ℕ) (xs ys : List (List ℕ)) → text_of_word
 text_of_words-more x y [] ys = refl
 text_of_words-more x y (z ∷ xs) ys = ap (λ t. x ++ (32 ∷ t)) (text_of_words-more z y xs ys) ∙ sym (append_assoc x (32 ∷ text_of_words (z ∷ xs)) (32 ∷ text_of_words (y ∷ ys)))
 
-pub number_line : (name : List ℕ) (n : ℕ) → codes "refused: map " ++ (name ++ (32 ∷ (decimal n ++ 10 ∷ []))) ≡ refusal (codes "map") (name ∷ decimal n ∷ [])
-number_line name n = ap (λ t. codes "refused: map " ++ t) (two name (decimal n))
+-- three words and the end of the line
+pub three : (a b c : List ℕ) → a ++ (32 ∷ (b ++ (32 ∷ (c ++ 10 ∷ [])))) ≡ (a ++ (32 ∷ (b ++ (32 ∷ c)))) ++ 10 ∷ []
+three a b c = ap (λ t. a ++ (32 ∷ t)) (two b c) ∙ two a (b ++ (32 ∷ c))
+
+pub plain_line : (place name : List ℕ) → codes "refused: " ++ (place ++ (32 ∷ (name ++ 10 ∷ []))) ≡ refusal place (name ∷ [])
+plain_line place name = ap (λ t. codes "refused: " ++ t) (two place name)
+
+pub number_line : (place name : List ℕ) (n : ℕ) → codes "refused: " ++ (place ++ (32 ∷ (name ++ (32 ∷ (decimal n ++ 10 ∷ []))))) ≡ refusal place (name ∷ decimal n ∷ [])
+number_line place name n = ap (λ t. codes "refused: " ++ t) (three place name (decimal n))
+
+pub limit_line : (place : List ℕ) (limit : Limit) → codes "refused: " ++ (place ++ (codes " Limit " ++ (limit_word limit ++ 10 ∷ []))) ≡ refusal place (codes "Limit" ∷ limit_word limit ∷ [])
+limit_line place limit = ap (λ t. codes "refused: " ++ t) (three place (codes "Limit") (limit_word limit))
 
 pub cell_line : (row column : ℕ) → codes "refused: map Cell " ++ (decimal row ++ (32 ∷ (decimal column ++ 10 ∷ []))) ≡ refusal (codes "map") (codes "Cell" ∷ decimal row ∷ decimal column ∷ [])
 cell_line row column = ap (λ t. codes "refused: map Cell " ++ t) (two (decimal row) (decimal column))

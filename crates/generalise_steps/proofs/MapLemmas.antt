@@ -1,5 +1,5 @@
 -- A text spells one map at most in a format, or is refused by one line at most.
-use Rattle.std.proofs.Common.{◌≡◌, ℕ, List, sym, ◌∙◌, ap, subst}
+use Rattle.std.proofs.Common.{◌≡◌, ℕ, List, codes, sym, ◌∙◌, ap, subst}
 use Rattle.plane_edge.specs.Rings.{Area}
 use Rattle.plane_edge.specs.declared.frame.Frame.{Frame}
 use Rattle.json_text.specs.Tree.{Json}
@@ -17,8 +17,9 @@ use Rattle.geo_reader.specs.Collections.{SpellsFeatures}
 use Rattle.geo_reader.specs.Faults as features
 use Rattle.geo_reader.proofs.LawLemmas as features_laws
 use Rattle.generalise_steps.specs.FaultLines.{grid_line, json_line, topology_line, features_line}
-use Rattle.generalise_steps.specs.MapTexts.{SpellsByValue, SpellsByGrid, RefusesValue, RefusesGrid, OneMap, OneLine, MapWithoutLine}
+use Rattle.generalise_steps.specs.MapTexts.{SpellsByValue, SpellsByGrid, SpellsMap, RefusesValue, RefusesGrid, RefusesMap, OneMap, OneLine, MapWithoutLine}
 use Rattle.generalise_steps.specs.MapTexts.{no_value, no_map}
+use Rattle.generalise_steps.specs.declared.map_format.Format.{Format}
 use Rattle.generalise_steps.specs.declared.map_format.Format.TheVariants.{Grid, TopoJson, GeoJson}
 
 -- ---- by values of JSON
@@ -31,19 +32,19 @@ one_by_value : (Spells : Json → Layer → Type 0) → ((tree : Json) (l m : La
     → (bytes : List ℕ) (l m : Layer) → SpellsByValue Spells bytes l → SpellsByValue Spells bytes m → l ≡ m
 one_by_value Spells one bytes l m h k = one h.tree l m h.spelled (subst (λ t. Spells t m) (one_value bytes k.tree h.tree k.text h.text) k.spelled)
 
-one_line_by_value : {F : Type 0} (IsFault : Json → F → Type 0) (line_of : F → List ℕ) → ((tree : Json) (f g : F) → IsFault tree f → IsFault tree g → f ≡ g)
-    → (bytes l m : List ℕ) → RefusesValue IsFault line_of bytes l → RefusesValue IsFault line_of bytes m → l ≡ m
-one_line_by_value IsFault line_of one bytes l m (no_value f h e) (no_value g k d) = e ∙ ap json_line (one_first_fault bytes f g h k) ∙ sym d
-one_line_by_value IsFault line_of one bytes l m (no_value f h e) (no_map tree g t k d) = absurd (tree_no_fault bytes tree f t h)
-one_line_by_value IsFault line_of one bytes l m (no_map tree f t h e) (no_value g k d) = absurd (tree_no_fault bytes tree g t k)
-one_line_by_value IsFault line_of one bytes l m (no_map tree f t h e) (no_map other g u k d) =
+pub one_line_by_value : {F : Type 0} (place : List ℕ) (IsFault : Json → F → Type 0) (line_of : F → List ℕ) → ((tree : Json) (f g : F) → IsFault tree f → IsFault tree g → f ≡ g)
+    → (bytes l m : List ℕ) → RefusesValue place IsFault line_of bytes l → RefusesValue place IsFault line_of bytes m → l ≡ m
+one_line_by_value place IsFault line_of one bytes l m (no_value f h e) (no_value g k d) = e ∙ ap (json_line place) (one_first_fault bytes f g h k) ∙ sym d
+one_line_by_value place IsFault line_of one bytes l m (no_value f h e) (no_map tree g t k d) = absurd (tree_no_fault bytes tree f t h)
+one_line_by_value place IsFault line_of one bytes l m (no_map tree f t h e) (no_value g k d) = absurd (tree_no_fault bytes tree g t k)
+one_line_by_value place IsFault line_of one bytes l m (no_map tree f t h e) (no_map other g u k d) =
     e ∙ ap line_of (one tree f g h (subst (λ x. IsFault x g) (one_value bytes other tree u t) k)) ∙ sym d
 
-value_clash : {F : Type 0} (Spells : Json → Layer → Type 0) (IsFault : Json → F → Type 0) (line_of : F → List ℕ)
+pub value_clash : {F : Type 0} (place : List ℕ) (Spells : Json → Layer → Type 0) (IsFault : Json → F → Type 0) (line_of : F → List ℕ)
     → ((tree : Json) (l : Layer) (f : F) → Spells tree l → ¬ IsFault tree f)
-    → (bytes line : List ℕ) (l : Layer) → SpellsByValue Spells bytes l → RefusesValue IsFault line_of bytes line → ⊥
-value_clash Spells IsFault line_of none bytes line l h (no_value f first e) = tree_no_fault bytes h.tree f h.text first
-value_clash Spells IsFault line_of none bytes line l h (no_map tree f t is e) =
+    → (bytes line : List ℕ) (l : Layer) → SpellsByValue Spells bytes l → RefusesValue place IsFault line_of bytes line → ⊥
+value_clash place Spells IsFault line_of none bytes line l h (no_value f first e) = tree_no_fault bytes h.tree f h.text first
+value_clash place Spells IsFault line_of none bytes line l h (no_map tree f t is e) =
     none h.tree l f h.spelled (subst (λ x. IsFault x f) (one_value bytes tree h.tree t h.text) is)
 
 -- ---- by grids
@@ -77,15 +78,15 @@ one_map_text (GeoJson class) bytes l m h k =
 pub one_map_line : OneLine
 one_map_line Grid bytes l m h k = one_line_by_grid bytes l m h k
 one_map_line (TopoJson pick) bytes l m h k =
-    one_line_by_value (λ tree f. topologies.IsFirstFault tree pick.class pick.object f) topology_line (λ tree f g. topology_laws.one_fault tree pick.class pick.object f g) bytes l m h k
+    one_line_by_value (codes "map") (λ tree f. topologies.IsFirstFault tree pick.class pick.object f) (topology_line (codes "map")) (λ tree f g. topology_laws.one_fault tree pick.class pick.object f g) bytes l m h k
 one_map_line (GeoJson class) bytes l m h k =
-    one_line_by_value (λ tree f. features.IsFirstFault tree class f) features_line (λ tree f g. features_laws.one_fault tree class f g) bytes l m h k
+    one_line_by_value (codes "map") (λ tree f. features.IsFirstFault tree class f) features_line (λ tree f g. features_laws.one_fault tree class f g) bytes l m h k
 
 pub map_no_line : MapWithoutLine
 map_no_line Grid bytes line l h = λ k. grid_clash bytes line l h k
 map_no_line (TopoJson pick) bytes line l h = λ k.
-    value_clash (λ tree x. SpellsTopology tree pick.class pick.object x) (λ tree f. topologies.IsFirstFault tree pick.class pick.object f) topology_line
+    value_clash (codes "map") (λ tree x. SpellsTopology tree pick.class pick.object x) (λ tree f. topologies.IsFirstFault tree pick.class pick.object f) (topology_line (codes "map"))
     (λ tree x f. topology_laws.layer_without_fault tree pick.class pick.object x f) bytes line l h k
 map_no_line (GeoJson class) bytes line l h = λ k.
-    value_clash (λ tree x. SpellsFeatures tree class x) (λ tree f. features.IsFirstFault tree class f) features_line
+    value_clash (codes "map") (λ tree x. SpellsFeatures tree class x) (λ tree f. features.IsFirstFault tree class f) features_line
     (λ tree x f. features_laws.layer_without_fault tree class x f) bytes line l h k

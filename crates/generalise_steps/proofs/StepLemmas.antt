@@ -1,5 +1,5 @@
 -- From the fault of a step to the refusal by its line.
-use Rattle.std.proofs.Common.{◌≡◌, ◌≢◌, ℕ, ℤ, List, Result, Ok, Err, IfOk, refl, sym, subst}
+use Rattle.std.proofs.Common.{◌≡◌, ◌≢◌, ℕ, ℤ, ◌≤◌, List, length, Result, Ok, Err, IfOk, codes, refl, sym, subst, arith}
 use Rattle.std.specs.Result.{MatchResult}
 use Rattle.agg_base.specs.declared.text.NoMemory.{NoMemory}
 use Rattle.json_text.specs.Tree.{Json}
@@ -31,7 +31,7 @@ use Rattle.coverage_check.specs.declared.fault.CoverFault.TheVariants as cover
 use Rattle.area_graph.specs.Problems.{IsLeastUnknown, IsLeastLight}
 use Rattle.generalise_steps.specs.FaultLines.{grid_line, json_line, topology_line, features_line, table_line, cover_line, class_line, weight_line}
 use Rattle.generalise_steps.specs.Halts.{IfRefused}
-use Rattle.generalise_steps.specs.MapTexts.{SpellsMap, RefusesMap, RefusesValue}
+use Rattle.generalise_steps.specs.MapTexts.{SpellsMap, RefusesMap, RefusesValue, RefusesTopology, RefusesGrid}
 use Rattle.generalise_steps.specs.MapTexts.{no_value, no_map}
 use Rattle.generalise_steps.specs.Loads.{IsMap}
 use Rattle.generalise_steps.specs.Refusals.{Refuses, map_text, table_text, coverage, classes, weights}
@@ -109,30 +109,31 @@ grid_refused map f (Ok l) h is e real by = halted (Ok l) h (RefusesMap Grid map)
 grid_refused map f (Err none) h is e real by = halted (Err none) h (RefusesMap Grid map) by (tt)
 
 -- the line is that of the first fault of a text of JSON
-abbrev pub IsJsonLine : List ℕ → List ℕ → Type 0
-IsJsonLine map line = (f : JsonFault) × json.IsFirstFault map f × (line ≡ json_line f)
+abbrev pub IsJsonLine : List ℕ → List ℕ → List ℕ → Type 0
+IsJsonLine place text line = (f : JsonFault) × json.IsFirstFault text f × (line ≡ json_line place f)
 
-pub json_refused : (map : List ℕ) (f : JsonFault) (line : Result (List ℕ) NoMemory) (h : Halt)
-    → json.IsFaultOf map f → IfOk line (λ l. l ≡ json_line f) → IfOk line (λ _. f ≢ json_fault.Memory) → IsHaltBy line h → IfRefused h (IsJsonLine map)
-json_refused map f (Ok l) h is e real by = halted (Ok l) h (IsJsonLine map) by (f, first_of_json map f is real, e)
-json_refused map f (Err none) h is e real by = halted (Err none) h (IsJsonLine map) by (tt)
+pub json_refused : (place text : List ℕ) (f : JsonFault) (line : Result (List ℕ) NoMemory) (h : Halt)
+    → json.IsFaultOf text f → IfOk line (λ l. l ≡ json_line place f) → IfOk line (λ _. f ≢ json_fault.Memory) → IsHaltBy line h → IfRefused h (IsJsonLine place text)
+json_refused place text f (Ok l) h is e real by = halted (Ok l) h (IsJsonLine place text) by (f, first_of_json text f is real, e)
+json_refused place text f (Err none) h is e real by = halted (Err none) h (IsJsonLine place text) by (tt)
 
-value_refused : {F : Type 0} (IsFault : Json → F → Type 0) (line_of : F → List ℕ) → (map : List ℕ) (h : Halt)
-    → IfRefused h (IsJsonLine map) → IfRefused h (RefusesValue IsFault line_of map)
-value_refused IsFault line_of map h is = halt_weaker h (IsJsonLine map) (RefusesValue IsFault line_of map) (λ line s. no_value s.0 s.1 s.2) is
+value_refused : {F : Type 0} (place : List ℕ) (IsFault : Json → F → Type 0) (line_of : F → List ℕ) → (text : List ℕ) (h : Halt)
+    → IfRefused h (IsJsonLine place text) → IfRefused h (RefusesValue place IsFault line_of text)
+value_refused place IsFault line_of text h is =
+    halt_weaker h (IsJsonLine place text) (RefusesValue place IsFault line_of text) (λ line s. no_value s.0 s.1 s.2) is
 
-pub topology_text_refused : (map : List ℕ) (pick : Pick) (h : Halt) → IfRefused h (IsJsonLine map) → IfRefused h (RefusesMap (TopoJson pick) map)
-topology_text_refused map pick h is = value_refused (λ tree f. topologies.IsFirstFault tree pick.class pick.object f) topology_line map h is
+pub topology_text_refused : (place text : List ℕ) (pick : Pick) (h : Halt) → IfRefused h (IsJsonLine place text) → IfRefused h (RefusesTopology place pick text)
+topology_text_refused place text pick h is = value_refused place (λ tree f. topologies.IsFirstFault tree pick.class pick.object f) (topology_line place) text h is
 
-pub features_text_refused : (map class : List ℕ) (h : Halt) → IfRefused h (IsJsonLine map) → IfRefused h (RefusesMap (GeoJson class) map)
-features_text_refused map class h is = value_refused (λ tree f. features.IsFirstFault tree class f) features_line map h is
+pub features_text_refused : (map class : List ℕ) (h : Halt) → IfRefused h (IsJsonLine (codes "map") map) → IfRefused h (RefusesMap (GeoJson class) map)
+features_text_refused map class h is = value_refused (codes "map") (λ tree f. features.IsFirstFault tree class f) features_line map h is
 
-pub topology_refused : (map : List ℕ) (pick : Pick) (tree : Json) (f : TopoFault) (line : Result (List ℕ) NoMemory) (h : Halt)
-    → IsTextOf map tree → topologies.IsFaultOf tree pick.class pick.object f → IfOk line (λ l. l ≡ topology_line f) → IfOk line (λ _. f ≢ topology.Memory) → IsHaltBy line h
-    → IfRefused h (RefusesMap (TopoJson pick) map)
-topology_refused map pick tree f (Ok l) h text is e real by =
-    halted (Ok l) h (RefusesMap (TopoJson pick) map) by (no_map tree f text (first_of_topology tree pick f is real) e)
-topology_refused map pick tree f (Err none) h text is e real by = halted (Err none) h (RefusesMap (TopoJson pick) map) by (tt)
+pub topology_refused : (place text : List ℕ) (pick : Pick) (tree : Json) (f : TopoFault) (line : Result (List ℕ) NoMemory) (h : Halt)
+    → IsTextOf text tree → topologies.IsFaultOf tree pick.class pick.object f → IfOk line (λ l. l ≡ topology_line place f) → IfOk line (λ _. f ≢ topology.Memory)
+    → IsHaltBy line h → IfRefused h (RefusesTopology place pick text)
+topology_refused place text pick tree f (Ok l) h spells is e real by =
+    halted (Ok l) h (RefusesTopology place pick text) by (no_map tree f spells (first_of_topology tree pick f is real) e)
+topology_refused place text pick tree f (Err none) h spells is e real by = halted (Err none) h (RefusesTopology place pick text) by (tt)
 
 pub features_refused : (map class : List ℕ) (tree : Json) (f : GeoFault) (line : Result (List ℕ) NoMemory) (h : Halt)
     → IsTextOf map tree → features.IsFaultOf tree class f → IfOk line (λ l. l ≡ features_line f) → IfOk line (λ _. f ≢ feature.Memory) → IsHaltBy line h

@@ -1,6 +1,6 @@
--- The lists of a value that a map's text spells are no longer than its reader takes.
+-- The lists of a value that a text spells are no longer than its reader takes.
 use Rattle.std.proofs.Common.{ℕ, ◌≤◌, List, length, arith}
-use Rattle.agg_base.specs.declared.limits.TheConstants.{MAP_BYTES, TEXT_BYTES}
+use Rattle.agg_base.specs.declared.limits.TheConstants.{TEXT_BYTES}
 use Rattle.json_text.specs.Tree.{Json, Null, Truth, Number, Str, Array, Object, Items, no_items, item, Members, no_members, member}
 use Rattle.json_text.specs.Faults.{IsTextOf}
 use Rattle.json_text.specs.Lengths.{AreListsWithin, AreItemsWithin, AreMembersWithin, item_count, member_count}
@@ -23,5 +23,5 @@ mutual
   members_wider n m no_members h within = tt
   members_wider n m (member name tree more) h within = (lists_wider n m tree h within.0, members_wider n m more h within.1)
 
-pub text_within : (map : List ℕ) (tree : Json) → length map ≤ MAP_BYTES → IsTextOf map tree → AreListsWithin TEXT_BYTES tree
-text_within map tree fits text = lists_wider (length map) TEXT_BYTES tree (omega arith) (lists_within map tree text.spelled)
+pub text_within : (text : List ℕ) (tree : Json) → length text ≤ TEXT_BYTES → IsTextOf text tree → AreListsWithin TEXT_BYTES tree
+text_within text tree fits is = lists_wider (length text) TEXT_BYTES tree fits (lists_within text tree is.spelled)

@@ -25,7 +25,7 @@ use Rattle.coverage_check.specs.declared.fault.CoverFault.TheVariants as cover
 abbrev pub refusal : List ℕ → List (List ℕ) → List ℕ
 refusal place words = text_of_lines (text_of_words (codes "refused:" ∷ place ∷ words) ∷ [])
 
--- ---- the map's text
+-- ---- the text of a map
 
 abbrev pub limit_word : Limit → List ℕ
 limit_word limit.Coordinate = codes "Coordinate"
@@ -71,11 +71,12 @@ features_words features.Memory = []
 unfoldable pub grid_line : GridFault → List ℕ
 grid_line fault = refusal (codes "map") (grid_words fault)
 
-unfoldable pub json_line : JsonFault → List ℕ
-json_line fault = refusal (codes "map") (json_words fault)
+-- what is no text of JSON, or no topology, in the map or in another file
+unfoldable pub json_line : List ℕ → JsonFault → List ℕ
+json_line file fault = refusal file (json_words fault)
 
-unfoldable pub topology_line : TopoFault → List ℕ
-topology_line fault = refusal (codes "map") (topology_words fault)
+unfoldable pub topology_line : List ℕ → TopoFault → List ℕ
+topology_line file fault = refusal file (topology_words fault)
 
 unfoldable pub features_line : GeoFault → List ℕ
 features_line fault = refusal (codes "map") (features_words fault)

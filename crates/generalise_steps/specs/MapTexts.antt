@@ -1,5 +1,5 @@
 -- What the text of a map spells, and the line that refuses it, by the format of the map.
-use Rattle.std.specs.Prelude.{◌≡◌, ◌≢◌, ℕ, List}
+use Rattle.std.specs.Prelude.{◌≡◌, ◌≢◌, ℕ, List, codes}
 use Rattle.json_text.specs.Tree.{Json}
 use Rattle.json_text.specs.Faults.{IsTextOf}
 use Rattle.json_text.specs.Faults as json
@@ -12,6 +12,7 @@ use Rattle.grid_reader.specs.declared.fault.GridFault.{GridFault}
 use Rattle.grid_reader.specs.declared.fault.GridFault.TheVariants as grid_fault
 use Rattle.topo_reader.specs.Topology.{SpellsTopology}
 use Rattle.topo_reader.specs.Faults as topologies
+use Rattle.topo_reader.specs.declared.pick.Pick.{Pick}
 use Rattle.geo_reader.specs.Collections.{SpellsFeatures}
 use Rattle.geo_reader.specs.Faults as features
 use Rattle.generalise_steps.specs.FaultLines.{grid_line, json_line, topology_line, features_line}
@@ -39,10 +40,15 @@ SpellsMap (GeoJson class) bytes layer = SpellsByValue (λ tree l. SpellsFeatures
 
 -- ---- the line of the first fault of a text
 
--- The bytes are no text of JSON, or they spell a value that has a fault of its own.
-pub data RefusesValue {F : Type 0} (IsFault : Json → F → Type 0) (line_of : F → List ℕ) (bytes line : List ℕ) : Type 0 where
-  no_value : (f : JsonFault) → json.IsFirstFault bytes f → line ≡ json_line f → RefusesValue IsFault line_of bytes line
-  no_map : (tree : Json) (f : F) → IsTextOf bytes tree → IsFault tree f → line ≡ line_of f → RefusesValue IsFault line_of bytes line
+-- The bytes of that file are no text of JSON, or they spell a value that has a fault of its own.
+pub data RefusesValue {F : Type 0} (file : List ℕ) (IsFault : Json → F → Type 0) (line_of : F → List ℕ) (bytes line : List ℕ) : Type 0 where
+  no_value : (f : JsonFault) → json.IsFirstFault bytes f → line ≡ json_line file f → RefusesValue file IsFault line_of bytes line
+  no_map : (tree : Json) (f : F) → IsTextOf bytes tree → IsFault tree f → line ≡ line_of f → RefusesValue file IsFault line_of bytes line
+
+-- the line of the first rule that the bytes of that file break, which are to be a topology
+abbrev pub RefusesTopology : List ℕ → Pick → List ℕ → List ℕ → Type 0
+RefusesTopology file pick bytes line =
+    RefusesValue file (λ tree f. topologies.IsFirstFault tree pick.class pick.object f) (topology_line file) bytes line
 
 -- the bytes are no grid
 pub record RefusesGrid (bytes line : List ℕ) : Type 0 where
@@ -54,8 +60,8 @@ pub record RefusesGrid (bytes line : List ℕ) : Type 0 where
 -- the line of the first rule that bytes break in a format
 abbrev pub RefusesMap : Format → List ℕ → List ℕ → Type 0
 RefusesMap Grid bytes line = RefusesGrid bytes line
-RefusesMap (TopoJson pick) bytes line = RefusesValue (λ tree f. topologies.IsFirstFault tree pick.class pick.object f) topology_line bytes line
-RefusesMap (GeoJson class) bytes line = RefusesValue (λ tree f. features.IsFirstFault tree class f) features_line bytes line
+RefusesMap (TopoJson pick) bytes line = RefusesTopology (codes "map") pick bytes line
+RefusesMap (GeoJson class) bytes line = RefusesValue (codes "map") (λ tree f. features.IsFirstFault tree class f) features_line bytes line
 
 -- ---- what holds of all texts
 

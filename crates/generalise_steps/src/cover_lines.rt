@@ -10,9 +10,9 @@ use plane_edge::{Edge, Spot};
 use std::alloc::Global;
 use std::fmt;
 
-// An edge as its four numbers.
+/// An edge as its four numbers, the low end first, parted by spaces.
 #[derive(Clone, Copy)]
-struct EdgeWords(Edge);
+pub struct EdgeWords(pub Edge);
 
 impl fmt::Display for EdgeWords {
     ghost output = { λ e. Some (text_of_words (edge_words e.0)) };

@@ -1,7 +1,7 @@
 // Why there is nothing to go on with.
 use agg_base::{NoMemory, Text};
 
-/// Why a map and a table give no problem.
+/// Why texts are refused.
 #[derive(Drop)]
 pub enum Halt {
     /// A step refuses them. The line says which one and why, and ends with a line feed.
@@ -14,7 +14,7 @@ impl Halt {
     ghost use Rattle.std.specs.Prelude.{◌≡◌, MatchResult};
 
     /// The refusal by a line, where there was memory for it.
-    pub(crate) fn of(line: Result<Text, NoMemory>) -> Halt
+    pub fn of(line: Result<Text, NoMemory>) -> Halt
         ensures { MatchResult line (λ l. result ≡ Halt.Refused l) (λ _. result ≡ Halt.Memory) }
     {
         match line {

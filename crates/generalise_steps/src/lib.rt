@@ -11,6 +11,7 @@ mod map_lines;
 mod map_reading;
 mod table_lines;
 
+pub use cover_lines::EdgeWords;
 pub use halt::Halt;
 pub use laws::{
     frame_law, loaded_without_refusal_law, map_without_line_law, one_line_law, one_load_law,
@@ -18,6 +19,7 @@ pub use laws::{
 };
 pub use loading::{Loaded, load};
 pub use map_format::Format;
+pub use map_reading::read_topology;
 
 #[cfg(test)]
 mod tests;

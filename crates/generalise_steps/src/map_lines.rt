@@ -16,19 +16,22 @@ use std::alloc::Global;
 use topo_reader::TopoFault;
 
 // The line of a fault without fields.
-fn plain_line(alloc: Global, name: &str) -> Result<Text, NoMemory>
-    ensures { IfOk result (λ line. line ≡ refusal (codes "map") (name.now ∷ [])) }
-{
-    Text::of(alloc, format!(in alloc; "refused: map {name}\n")?.as_str())
-}
-
-// The line of a fault with one number.
-fn number_line(alloc: Global, name: &str, number: u64) -> Result<Text, NoMemory>
-    ensures { IfOk result (λ line. line ≡ refusal (codes "map") (name.now ∷ decimal number ∷ [])) }
+fn plain_line(alloc: Global, file: &str, name: &str) -> Result<Text, NoMemory>
+    ensures { IfOk result (λ line. line ≡ refusal file.now (name.now ∷ [])) }
 {
     Text::of(
         alloc,
-        format!(in alloc; "refused: map {name} {number}\n")?.as_str(),
+        format!(in alloc; "refused: {file} {name}\n")?.as_str(),
+    )
+}
+
+// The line of a fault with one number.
+fn number_line(alloc: Global, file: &str, name: &str, number: u64) -> Result<Text, NoMemory>
+    ensures { IfOk result (λ line. line ≡ refusal file.now (name.now ∷ decimal number ∷ [])) }
+{
+    Text::of(
+        alloc,
+        format!(in alloc; "refused: {file} {name} {number}\n")?.as_str(),
     )
 }
 
@@ -45,13 +48,13 @@ fn word_of(limit: Limit) -> &'static str
 }
 
 // The line of a limit that is passed.
-fn limit_line(alloc: Global, limit: Limit) -> Result<Text, NoMemory>
-    ensures { IfOk result (λ line. line ≡ refusal (codes "map") (codes "Limit" ∷ limit_word limit ∷ [])) }
+fn limit_line(alloc: Global, file: &str, limit: Limit) -> Result<Text, NoMemory>
+    ensures { IfOk result (λ line. line ≡ refusal file.now (codes "Limit" ∷ limit_word limit ∷ [])) }
 {
     let word = word_of(limit);
     Text::of(
         alloc,
-        format!(in alloc; "refused: map Limit {word}\n")?.as_str(),
+        format!(in alloc; "refused: {file} Limit {word}\n")?.as_str(),
     )
 }
 
@@ -72,44 +75,44 @@ pub fn of_grid(alloc: Global, fault: GridFault) -> Result<Text, NoMemory>
     ensures real { IfOk result (λ _. fault ≢ grid.Memory) }
 {
     match fault {
-        GridFault::Header { line } => number_line(alloc, "Header", line as u64),
-        GridFault::Centred { line } => number_line(alloc, "Centred", line as u64),
+        GridFault::Header { line } => number_line(alloc, "map", "Header", line as u64),
+        GridFault::Centred { line } => number_line(alloc, "map", "Centred", line as u64),
         GridFault::Cell { row, column } => cell_line(alloc, row, column),
-        GridFault::Count { found } => number_line(alloc, "Count", found),
-        GridFault::Limit(limit) => limit_line(alloc, limit),
+        GridFault::Count { found } => number_line(alloc, "map", "Count", found),
+        GridFault::Limit(limit) => limit_line(alloc, "map", limit),
         GridFault::Memory => Err(NoMemory),
     }
 }
 
-/// The line of a text that spells no value of JSON.
+/// The line of a text that spells no value of JSON, by what file it is.
 #[tactic(auto, unfolding(crate::specs::FaultLines::json_line))]
-pub fn of_json(alloc: Global, fault: JsonFault) -> Result<Text, NoMemory>
-    ensures line { IfOk result (λ line. line ≡ json_line fault) }
+pub fn of_json(alloc: Global, file: &str, fault: JsonFault) -> Result<Text, NoMemory>
+    ensures line { IfOk result (λ line. line ≡ json_line file.now fault) }
     ensures real { IfOk result (λ _. fault ≢ json.Memory) }
 {
     match fault {
-        JsonFault::Syntax { at } => number_line(alloc, "Syntax", at as u64),
-        JsonFault::TooDeep { at } => number_line(alloc, "TooDeep", at as u64),
+        JsonFault::Syntax { at } => number_line(alloc, file, "Syntax", at as u64),
+        JsonFault::TooDeep { at } => number_line(alloc, file, "TooDeep", at as u64),
         JsonFault::Memory => Err(NoMemory),
     }
 }
 
-/// The line of a value that spells no map as TopoJSON.
+/// The line of a value that spells no map as TopoJSON, by what file its text is.
 #[tactic(auto, unfolding(crate::specs::FaultLines::topology_line))]
-pub fn of_topology(alloc: Global, fault: TopoFault) -> Result<Text, NoMemory>
-    ensures line { IfOk result (λ line. line ≡ topology_line fault) }
+pub fn of_topology(alloc: Global, file: &str, fault: TopoFault) -> Result<Text, NoMemory>
+    ensures line { IfOk result (λ line. line ≡ topology_line file.now fault) }
     ensures real { IfOk result (λ _. fault ≢ topology.Memory) }
 {
     match fault {
-        TopoFault::NotTopology => plain_line(alloc, "NotTopology"),
-        TopoFault::NoObject => plain_line(alloc, "NoObject"),
-        TopoFault::BadArc { arc } => number_line(alloc, "BadArc", arc as u64),
-        TopoFault::NotWhole { arc } => number_line(alloc, "NotWhole", arc as u64),
-        TopoFault::NotPolygonal { place } => number_line(alloc, "NotPolygonal", place as u64),
-        TopoFault::NoClass { place } => number_line(alloc, "NoClass", place as u64),
-        TopoFault::BadIndex { place } => number_line(alloc, "BadIndex", place as u64),
-        TopoFault::OpenRing { place } => number_line(alloc, "OpenRing", place as u64),
-        TopoFault::Limit(limit) => limit_line(alloc, limit),
+        TopoFault::NotTopology => plain_line(alloc, file, "NotTopology"),
+        TopoFault::NoObject => plain_line(alloc, file, "NoObject"),
+        TopoFault::BadArc { arc } => number_line(alloc, file, "BadArc", arc as u64),
+        TopoFault::NotWhole { arc } => number_line(alloc, file, "NotWhole", arc as u64),
+        TopoFault::NotPolygonal { place } => number_line(alloc, file, "NotPolygonal", place as u64),
+        TopoFault::NoClass { place } => number_line(alloc, file, "NoClass", place as u64),
+        TopoFault::BadIndex { place } => number_line(alloc, file, "BadIndex", place as u64),
+        TopoFault::OpenRing { place } => number_line(alloc, file, "OpenRing", place as u64),
+        TopoFault::Limit(limit) => limit_line(alloc, file, limit),
         TopoFault::Memory => Err(NoMemory),
     }
 }
@@ -121,12 +124,12 @@ pub fn of_features(alloc: Global, fault: GeoFault) -> Result<Text, NoMemory>
     ensures real { IfOk result (λ _. fault ≢ features.Memory) }
 {
     match fault {
-        GeoFault::NotGeoJson => plain_line(alloc, "NotGeoJson"),
-        GeoFault::NotPolygonal { place } => number_line(alloc, "NotPolygonal", place as u64),
-        GeoFault::NoClass { place } => number_line(alloc, "NoClass", place as u64),
-        GeoFault::NotWhole { place } => number_line(alloc, "NotWhole", place as u64),
-        GeoFault::OpenRing { place } => number_line(alloc, "OpenRing", place as u64),
-        GeoFault::Limit(limit) => limit_line(alloc, limit),
+        GeoFault::NotGeoJson => plain_line(alloc, "map", "NotGeoJson"),
+        GeoFault::NotPolygonal { place } => number_line(alloc, "map", "NotPolygonal", place as u64),
+        GeoFault::NoClass { place } => number_line(alloc, "map", "NoClass", place as u64),
+        GeoFault::NotWhole { place } => number_line(alloc, "map", "NotWhole", place as u64),
+        GeoFault::OpenRing { place } => number_line(alloc, "map", "OpenRing", place as u64),
+        GeoFault::Limit(limit) => limit_line(alloc, "map", limit),
         GeoFault::Memory => Err(NoMemory),
     }
 }

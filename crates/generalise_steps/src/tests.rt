@@ -326,10 +326,11 @@ fn rarer_faults_have_lines(rt: HostRuntime) -> Result<(), Fail> {
 #[test]
 fn values_have_lines(rt: HostRuntime) -> Result<(), Fail> {
     let alloc = rt.alloc();
-    let arc = map_lines::of_topology(alloc, TopoFault::BadArc { arc: 3 });
-    let object = map_lines::of_topology(alloc, TopoFault::NoObject);
+    let arc = map_lines::of_topology(alloc, "map", TopoFault::BadArc { arc: 3 });
+    let object = map_lines::of_topology(alloc, "out", TopoFault::NoObject);
     let index = map_lines::of_topology(
         alloc,
+        "map",
         TopoFault::BadIndex {
             place: 4_294_967_295,
         },
@@ -337,7 +338,7 @@ fn values_have_lines(rt: HostRuntime) -> Result<(), Fail> {
     let ring = map_lines::of_features(alloc, GeoFault::OpenRing { place: 0 });
     let edges = map_lines::of_features(alloc, GeoFault::Limit(Limit::Edges));
     assert!(rt; is_line(arc, "refused: map BadArc 3\n")?);
-    assert!(rt; is_line(object, "refused: map NoObject\n")?);
+    assert!(rt; is_line(object, "refused: out NoObject\n")?);
     assert!(rt; is_line(index, "refused: map BadIndex 4294967295\n")?);
     assert!(rt; is_line(ring, "refused: map OpenRing 0\n")?);
     assert!(rt; is_line(edges, "refused: map Limit Edges\n")?);

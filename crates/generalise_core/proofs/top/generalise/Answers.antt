@@ -2,7 +2,7 @@
 use Rattle.std.proofs.Common.{◌∙◌}
 use Rattle.generalise_core.specs.Orders.{request}
 use Rattle.generalise_core.proofs.Exclusions.{answered_not_refused, stated_hopeless, stopped_accepted}
-use Rattle.generalise_core.proofs.RunLemmas.{heard_stop, heard_report, partly_kept, as_refused, as_missed, fails_any, fails_as, ends_as}
+use Rattle.generalise_core.proofs.RunLemmas.{heard_stop, heard_report, partly_kept, as_refused, as_missed, fails_any, fails_as, ends_as, never_invalid, answer_never, stop_never}
 use Rattle.generalise_core.proofs.Headlines.{stated}
 use Rattle.generalise_core.proofs.top.generalise.Goals as goal
 
@@ -53,3 +53,11 @@ pub returns-in-Err-Stopped-clause-heard : goal.returns-in-Err-Stopped-clause-hea
 returns-in-Err-Stopped-clause-heard g c = λ words spelled.
     let is = rw c.in-Err-Stopped.field-0-is at c.in-Err-Stopped.ensures in
     heard_stop (g.S.Shelf.state c.args.shelf.now) (g.S.Shelf.state c.decide.new.shelf) (g.S.Shelf.state c.tell.new.shelf) words (request c.args.order.now) _ spelled is.0 is.1 c.tell.ensures.frame c.tell.ensures.partly
+
+-- ---- no verdict
+
+pub returns-in-Ok-clause-unjudged : goal.returns-in-Ok-clause-unjudged
+returns-in-Ok-clause-unjudged g c = never_invalid _ _ (answer_never _) c.carry_out.ensures.status
+
+pub returns-in-Err-Stopped-clause-unjudged : goal.returns-in-Err-Stopped-clause-unjudged
+returns-in-Err-Stopped-clause-unjudged g c = never_invalid _ _ (stop_never _) c.tell.ensures.status

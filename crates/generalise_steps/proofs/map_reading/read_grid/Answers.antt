@@ -1,3 +1,4 @@
+use Rattle.std.proofs.Common.{rules}
 use Rattle.generalise_steps.proofs.StepLemmas.{grid_refused}
 use Rattle.generalise_steps.proofs.map_reading.read_grid.Goals as goal
 

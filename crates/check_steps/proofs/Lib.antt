@@ -1,0 +1,5 @@
+pub mod FlawLines
+pub mod SameTrees
+pub mod SameVerdicts
+pub mod CaseLemmas
+pub mod ReadLemmas
