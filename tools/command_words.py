@@ -14,6 +14,14 @@ OPTIONS = {"generalise": {"--splits", "--class", "--object"}, "check": {"--class
 OPERANDS = {"generalise": 5, "check": 5, "make": 7}
 
 
+def are_texts(words):
+    """Whether all words are texts; where one is not, the program ends with 64 and says nothing."""
+    try:
+        return all(word.encode("utf-8") is not None for word in words)
+    except UnicodeEncodeError:
+        return False
+
+
 def parted(command, words):
     """The operands and the options behind a command; None where a word is empty or stands in no right place."""
     operands, options, at = [], {}, 0

@@ -184,21 +184,27 @@ def answer(asked, map_bytes, table_bytes, certificate_bytes, fetch_out):
     return 0, f"valid {certificate.status} {told[0]} {told[1]}\n".encode()
 
 
+def answer_of_files(asked, map_bytes, table_bytes, certificate_bytes, fetch_out):
+    """The exit code and the said text for the bytes of the files, each None where it cannot be read; they are read in this order."""
+    texts = {"map": (map_bytes, MOST_MAP), "table": (table_bytes, MOST_TABLE), "certificate": (certificate_bytes, MOST_CERTIFICATE)}
+    for place, (text, most) in texts.items():
+        if text is None:
+            return 74, f"read fault: {place}\n".encode()
+        if len(text) > most:
+            return 65, f"refused: {place} TooLong\n".encode()
+    return answer(asked, map_bytes, table_bytes, certificate_bytes, fetch_out)
+
+
 def check(words):
     """Does what the command says: the exit code and the said text."""
     map_name, table_name, out_name, certificate_name = words.files
-    limits = {"map": MOST_MAP, "table": MOST_TABLE, "certificate": MOST_CERTIFICATE}
-    texts = []
-    for name, (place, most) in zip((map_name, table_name, certificate_name), limits.items()):
-        texts.append(bytes_of(name))
-        if texts[-1] is None:
-            return 74, f"read fault: {place}\n".encode()
-        if len(texts[-1]) > most:
-            return 65, f"refused: {place} TooLong\n".encode()
-    return answer(words.asked, *texts, lambda: bytes_of(out_name))
+    texts = [bytes_of(name) for name in (map_name, table_name, certificate_name)]
+    return answer_of_files(words.asked, *texts, lambda: bytes_of(out_name))
 
 
 def main():
+    if not command_words.are_texts(sys.argv[1:]):
+        sys.exit(64)
     words = command_words.read(sys.argv[1:])
     code, said = check(words) if words is not None and words.command == "check" else (64, command_words.USAGE)
     sys.stdout.buffer.write(said)

@@ -1,16 +1,20 @@
 """Random certificates and written maps for a problem, right and wrong ones, to compare judges with.
 
-`right_certificate(dice, model, first)` gives a certificate without a flaw; `strayed_numbers`, `strayed_grouping` and `strayed_tree` change one
-at one place, and `drawn_text` gives its written map. `changed_lines(dice, text)` changes the text of one. It takes no part in any proof.
+`right_certificate(dice, model, first)` gives a certificate without a flaw, whose tree may have splits, leaves of rows in either mode, and
+leaves of single areas; `strayed_grouping` and `strayed_tree` change one at one place, and `drawn_text` gives its written map.
+`changed_lines(dice, text)` changes the text of one, and `deepened(dice, text)` puts a long way of splits into its tree. It takes no part in any
+proof.
 """
-from certificates import FIXED, Border, Certificate, Leaf, Split
+import math
+
+from certificates import DEEPEST, FIXED, Border, Certificate, Escape, Leaf, Split
 from judge import Flaw, cost_of, judge_regions, split_domains, tree_bound
 from layout import map_text
 from random_sums import random_leaf, random_row
-from reference import borders_of
-from row_sums import LEAST, MOST, Weak, sound, value, whole_domains
+from row_sums import LEAST, MOST, Weak, in_form, neighbours, sound, value, whole_domains
 
 TRIES = 30
+MOST_CHOICES = 40
 
 
 def random_tree(dice, model, domains, depth, leaf_of=None):
@@ -24,6 +28,37 @@ def random_tree(dice, model, domains, depth, leaf_of=None):
     return [split] + [node for own in below for node in random_tree(dice, model, own, depth - 1, leaf_of)]
 
 
+def choices(domains):
+    """In how many ways each area can have a class that it is allowed."""
+    return math.prod(map(len, domains))
+
+
+def closed_tree(dice, model, domains):
+    """A tree whose leaves have single areas."""
+    open_areas = [area for area, classes in enumerate(domains) if len(classes) > 1]
+    if not open_areas:
+        return [FIXED]
+    area = dice.choice(open_areas)
+    split = Split(area, dice.choice(sorted(domains[area])))
+    return [split] + [node for own in split_domains(domains, 0, split) for node in closed_tree(dice, model, own)]
+
+
+def void_leaf(dice, model, domains):
+    """A leaf that proves that an area cannot have the one class that it is allowed, where its surroundings forbid that; else None."""
+    single = [area for area, classes in enumerate(domains) if len(classes) == 1]
+    if not single:
+        return None
+    area = dice.choice(single)
+    cls, members = min(domains[area]), {area}
+    while True:
+        more = [other for other in neighbours(model, members) if cls in domains[other]]
+        if not more:
+            break
+        members.update(more)
+    row = Escape(dice.choice([1, 1, 7, 1 << 100]), area, cls, sorted(members))
+    return Leaf(True, 1, [row]) if in_form(model, row) else None
+
+
 def is_right_leaf(model, domains, leaf):
     if sound(model, domains, leaf) is not None:
         return False
@@ -34,10 +69,23 @@ def is_right_leaf(model, domains, leaf):
     return True
 
 
+def gaining_leaf(dice, model, domains):
+    """A leaf of rows each of which makes it worth more."""
+    leaf = Leaf(False, dice.choice([1, 1, 2, 3, 4096]), [])
+    bound = value(model, domains, leaf)
+    for _ in range(TRIES if model.own else 0):
+        more = leaf._replace(rows=leaf.rows + [random_row(dice, model)])
+        if is_right_leaf(model, domains, more) and value(model, domains, more) > bound:
+            leaf, bound = more, value(model, domains, more)
+    return leaf
+
+
 def right_leaf(dice, model, domains):
     """A leaf that proves something over the domains."""
+    if dice.random() < 0.3:
+        return gaining_leaf(dice, model, domains)
     for _ in range(TRIES):
-        leaf = random_leaf(dice, model)
+        leaf = (void_leaf(dice, model, domains) if dice.random() < 0.3 else None) or random_leaf(dice, model)
         if is_right_leaf(model, domains, leaf):
             return leaf
     return Leaf(False, 1, [])
@@ -77,13 +125,27 @@ def told(model, regions, region_of, tree):
     return Certificate(status, cost, bound, len(model.own), regions, region_of, tree)
 
 
+def right_tree(dice, model, leaf_of):
+    """A tree over all classes, whose leaves are the given ones, or where it has few leaves of single areas alone mostly these."""
+    domains = whole_domains(model)
+    if choices(domains) <= MOST_CHOICES and dice.random() < 0.4:
+        return closed_tree(dice, model, domains)
+    return random_tree(dice, model, domains, dice.choice([0, 0, 1, 3, 5]), leaf_of)
+
+
+def hopeless_leaf(dice, model, domains, first):
+    """A leaf that proves that there is no grouping, where the first one proves it over all classes."""
+    leaf = void_leaf(dice, model, domains) if dice.random() < 0.5 else None
+    if leaf is None and choices(domains) == 1:
+        leaf = FIXED
+    return leaf or first
+
+
 def right_certificate(dice, model, first):
     """A certificate without a flaw; the first one is such a certificate."""
-    depth = dice.choice([0, 0, 1, 3, 5])
     if first.status == "none":
-        tree = random_tree(dice, model, whole_domains(model), depth, lambda domains: first.tree[0])
-        return first._replace(tree=tree)
-    tree = random_tree(dice, model, whole_domains(model), depth, lambda domains: right_leaf(dice, model, domains))
+        return first._replace(tree=right_tree(dice, model, lambda domains: hopeless_leaf(dice, model, domains, first.tree[0])))
+    tree = right_tree(dice, model, lambda domains: right_leaf(dice, model, domains))
     return told(model, *right_grouping(dice, model, first), tree)
 
 
@@ -122,16 +184,6 @@ def strayed_node(dice, model, node):
     if not isinstance(node, Split):
         return strayed_leaf(dice, model, node)
     return dice.choice([node._replace(area=node.area + 1), node._replace(cls=node.cls + 1), Split(dice.randint(0, len(model.own)), node.cls)])
-
-
-def strayed_numbers(dice, certificate):
-    """The certificate with another cost, bound or status; where there is none, with another number of areas."""
-    if certificate.status == "none":
-        return certificate._replace(areas=certificate.areas + 1)
-    other = "within" if certificate.status == "optimal" else "optimal"
-    step = dice.choice([-1, 1, 256])
-    changes = [{"cost": certificate.cost + step}, {"bound": certificate.bound + step}, {"status": other}]
-    return certificate._replace(**dice.choice(changes))
 
 
 def strayed_areas(dice, model, regions, region_of):
@@ -179,13 +231,13 @@ def due_cost(model, certificate):
 
 
 def drawn_text(landscape, names, certificate):
-    """The written map of a certificate, where an area of no region is drawn in the last one; None with `none`."""
+    """The written map of a certificate, where an area of no region is drawn in none; None with `none`."""
     if certificate.status == "none":
         return None
-    count = len(certificate.regions)
-    region_of = [min(region, count - 1) for region in certificate.region_of[: landscape.areas]]
-    region_of += [0] * (landscape.areas - len(region_of))
-    borders = borders_of(landscape.edges(), region_of, count) if count else []
+    borders = [set() for _ in certificate.regions]
+    for own, region in zip(landscape.edges(), certificate.region_of):
+        if region < len(borders):
+            borders[region] ^= own
     return map_text(borders, [names[cls % len(names)].decode() for cls in certificate.regions], landscape.frame)
 
 
@@ -198,22 +250,42 @@ def changed_word(dice, word):
     return dice.choice(fresh)
 
 
+def line_of_some_kind(dice, lines):
+    """The place of a line; each kind of line, by its first word, is as likely."""
+    kinds = [line.partition(b" ")[0] for line in lines]
+    kind = dice.choice(sorted(set(kinds)))
+    return dice.choice([place for place, own in enumerate(kinds) if own == kind])
+
+
 def changed_lines(dice, text):
     """The text of a certificate with a word or a line changed, left out, said again or put in, or with another end of a line."""
     lines = text.split(b"\n")
-    at = dice.randrange(len(lines))
+    at = line_of_some_kind(dice, lines)
     pick = dice.random()
-    if pick < 0.6:
+    if pick < 0.5:
         words = lines[at].split(b" ")
         place = dice.randrange(len(words))
         words[place : place + 1] = [changed_word(dice, words[place])] * dice.choice([1, 1, 1, 1, 0, 2])
         lines[at] = b" ".join(words)
-    elif pick < 0.7:
+    elif pick < 0.6:
         del lines[at]
-    elif pick < 0.8:
-        lines.insert(at, lines[dice.randrange(len(lines))])
+    elif pick < 0.7:
+        lines.insert(at, lines[dice.choice([at, at, dice.randrange(len(lines))])])
+    elif pick < 0.75:
+        other = dice.randrange(len(lines))
+        lines[at], lines[other] = lines[other], lines[at]
     elif pick < 0.9:
         lines.insert(at, dice.choice([b"", b"c 1 0", b"s 0 0", b"b 0 0 0 1", b"e 1 0 0 1 0", b"f", b"end", b"v 0", b"r 0", b"a 0"]))
     else:
-        lines[at] = dice.choice([lines[at] + b" ", b" " + lines[at], lines[at] + b"\r", lines[at][:-1], lines[at].replace(b" ", b"  ")])
+        ends = [lines[at] + b" ", b" " + lines[at], lines[at] + b"\r", lines[at][:-1], lines[at].replace(b" ", b"  "), lines[at] + b"\0"]
+        lines[at] = dice.choice(ends)
+    return b"\n".join(lines)
+
+
+def deepened(dice, text):
+    """The text with a way of some thousand splits in front of a node, which closes again; the deepest node is about as deep as may be."""
+    lines = text.split(b"\n")
+    nodes = [place for place, line in enumerate(lines) if line[:1] in (b"s", b"f", b"c", b"v") and not line.startswith((b"status", b"cost"))]
+    at, count = dice.choice(nodes), DEEPEST + dice.choice([-3, -1, 0, 0, 1, 1, 2])
+    lines[at:at] = [b"s 0 0"] * count + [dice.choice([b"f", b"c 1 0"])] * count
     return b"\n".join(lines)

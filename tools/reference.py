@@ -403,6 +403,8 @@ def generalise(words):
 
 
 def main():
+    if not command_words.are_texts(sys.argv[1:]):
+        sys.exit(64)
     words = command_words.read(sys.argv[1:])
     if words is None or words.command != "generalise" or words.splits != 0:
         code, said = 64, command_words.USAGE

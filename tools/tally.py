@@ -53,7 +53,9 @@ class Tally:
 
 
 def checksum(program):
-    """What tells one program from another."""
+    """What tells one program from another; nothing where none is run."""
+    if program == "-":
+        return program
     with open(program, "rb") as file:
         return hashlib.sha256(file.read()).hexdigest()
 

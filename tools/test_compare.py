@@ -8,16 +8,40 @@ import random
 import tempfile
 import unittest
 
+import aimed_flaws
+import certificates
 import compare
 import compare_check
-import judge
 import reference
+from compare_check import due_of
 from tally import Tally, take_option
 
-
-def verdict(check):
-    asked, map_text, table_text, out, certificate = check
-    return judge.answer(asked, map_text, table_text, certificate, lambda: out)
+# The flaw that each aim is at.
+FLAWS = {
+    "areas": "Areas",
+    "range": "Range",
+    "class range": "ClassRange",
+    "drawn more": "Regions",
+    "drawn class": "DrawnClass",
+    "drawn elsewhere": "DrawnEdges",
+    "empty": "Empty",
+    "loose": "Loose",
+    "no own": "NoOwn",
+    "too small": "TooSmall",
+    "cost": "Cost",
+    "bound": "Bound",
+    "status": "Status",
+    "no grouping": "Bound",
+    "split": "Split",
+    "row": "Row",
+    "negative": "Negative",
+    "not fixed": "NotFixed",
+    "not void": "NotVoid",
+    "wide choice": "Wide choice",
+    "wide across": "Wide across",
+    "wide total": "Wide total-link",
+    "wide areas": "Wide total-area",
+}
 
 
 class Runs(unittest.TestCase):
@@ -38,16 +62,62 @@ class Runs(unittest.TestCase):
         self.assertEqual(runs[0], runs[1])
 
 
+def answers(place, count):
+    """What the second judge says where the change is at this place."""
+    kept = compare_check.PLACES
+    try:
+        compare_check.PLACES = [place]
+        checks = [compare_check.random_check(random.Random(f"1 {at}"), compare.FORMS[at % 3], True) for at in range(count)]
+    finally:
+        compare_check.PLACES = kept
+    return [due_of(check) for check in checks]
+
+
 class Checks(unittest.TestCase):
     def test_unchanged_checks_are_valid(self):
-        for at in range(30):
+        for at in range(60):
             check = compare_check.random_check(random.Random(f"1 {at}"), compare.FORMS[at % 3], False)
-            self.assertEqual(verdict(check)[0], 0, check)
+            self.assertEqual(due_of(check)[0], 0, check)
+
+    def test_unchanged_checks_have_trees_of_all_kinds(self):
+        trees = []
+        for at in range(150):
+            check = compare_check.random_check(random.Random(f"2 {at}"), compare.FORMS[at % 3], False)
+            trees.append(certificates.read(check.certificate).tree)
+        leaves = [node for tree in trees for node in tree if isinstance(node, certificates.Leaf)]
+        rows = [row for leaf in leaves for row in leaf.rows]
+        self.assertGreater(sum(len(tree) > 6 for tree in trees), 10)
+        self.assertGreater(sum(len(tree) > 1 and certificates.FIXED in tree for tree in trees), 10)
+        self.assertGreater(sum(leaf.void for leaf in leaves), 10)
+        self.assertGreater(sum(isinstance(row, certificates.Border) for row in rows), 10)
+        self.assertGreater(sum(isinstance(row, certificates.Escape) and len(row.members) > 1 for row in rows), 10)
 
     def test_changed_checks_are_mostly_not(self):
-        told = [verdict(compare_check.random_check(random.Random(f"1 {at}"), compare.FORMS[at % 3], True)) for at in range(60)]
-        self.assertGreater(sum(code != 0 for code, _ in told), 40)
+        told = [due_of(compare_check.random_check(random.Random(f"1 {at}"), compare.FORMS[at % 3], True)) for at in range(90)]
+        self.assertGreater(sum(code != 0 for code, _ in told), 60)
         self.assertGreater(len({compare_check.kind_of(own) for own in told if own[0] == 5}), 5)
+
+    def test_each_aim_finds_its_flaw(self):
+        self.assertEqual(set(FLAWS), set(aimed_flaws.AIMS))
+        for aim, flaw in FLAWS.items():
+            told = [compare_check.kind_of(own) for own in answers(aim, 45)]
+            self.assertGreater(told.count("invalid " + flaw), 4, (aim, told))
+
+    def test_other_places(self):
+        for place, said, least in (
+            ("deep", "refused: certificate TooDeep", 5),
+            ("lines", "refused: certificate Line", 20),
+            ("words", "usage", 45),
+            ("no file", "read fault: out", 3),
+            ("frame", "invalid Frame", 10),
+            ("out deep", "refused: out TooDeep", 5),
+        ):
+            self.assertGreaterEqual([compare_check.kind_of(own) for own in answers(place, 45)].count(said), least, place)
+
+    def test_options_stand_anywhere(self):
+        check = compare_check.Triple(compare.Asked("topojson", "k", "t"), b"", b"", b"", b"")
+        words = compare_check.words_of(random.Random(1), check, list("mtoc"))
+        self.assertEqual((words[0], sorted(words[1:])), ("check", sorted("topojson m t o c --class k --object t".split())))
 
 
 class Batches(unittest.TestCase):
