@@ -142,15 +142,15 @@ fn tree_of(alloc: Global, frame: Frame) -> Result<Tree, NoMemory>
     ensures { IfOk result (λ tree. json_of tree ≡ tree_of (opened_of frame)) }
 {
     match frame {
-        Frame::List(items) => Ok(Tree::List(fitted(alloc, items)?)),
-        Frame::Members(members) => Ok(Tree::Members(fitted(alloc, members)?)),
-        Frame::Named(members, _name) => Ok(Tree::Members(fitted(alloc, members)?)),
+        Frame::List(items) => Ok(Tree::List(trim(alloc, items)?)),
+        Frame::Members(members) => Ok(Tree::Members(trim(alloc, members)?)),
+        Frame::Named(members, _name) => Ok(Tree::Members(trim(alloc, members)?)),
     }
 }
 
 // The same values in a block of their size. Few of them move to one of their own, so that theirs is free for the list that opens next; many
 // stay where they are, since there may be no memory for them twice.
-fn fitted<T: Drop>(alloc: Global, values: Vec<T>) -> Result<Vec<T>, NoMemory>
+fn trim<T: Drop>(alloc: Global, values: Vec<T>) -> Result<Vec<T>, NoMemory>
     ensures { IfOk result (λ fitting. fitting.items ≡ values.items) }
 {
     let mut values = values;

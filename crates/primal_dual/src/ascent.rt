@@ -21,7 +21,7 @@ struct Distance {
 
 impl Distance {
     // Both together, as the tilt weighs them.
-    fn weighed(self, tilt: u32) -> i128 {
+    fn length_at(self, tilt: u32) -> i128 {
         if tilt >= EVEN {
             let by = tilt.wrapping_sub(EVEN);
             self.fractions
@@ -36,7 +36,7 @@ impl Distance {
     }
 
     // The tilt that weighs both more alike, at most one away.
-    fn tilted(self, tilt: u32) -> u32 {
+    fn next_tilt(self, tilt: u32) -> u32 {
         let fractions = if tilt >= EVEN {
             self.fractions
                 .wrapping_shl(tilt.wrapping_sub(EVEN).wrapping_mul(2))
@@ -147,7 +147,7 @@ impl Relaxation {
     }
 
     fn is_over(&self, pace: &mut Pace, step: u32) -> bool {
-        let far = self.distance(&self.image, &self.now).weighed(self.tilt);
+        let far = self.distance(&self.image, &self.now).length_at(self.tilt);
         pace.is_over(far, step)
     }
 
@@ -169,7 +169,9 @@ impl Relaxation {
             return Ok(true);
         }
         pace.go_on(step);
-        self.tilt = self.distance(&self.image, &self.anchor).tilted(self.tilt);
+        self.tilt = self
+            .distance(&self.image, &self.anchor)
+            .next_tilt(self.tilt);
         self.weigh();
         Ok(false)
     }

@@ -8,16 +8,16 @@ pub(crate) const ONE: i64 = 1_073_741_824;
 pub(crate) const MOST: i64 = 72_057_594_037_927_936;
 
 // The number, or the nearest that a price may be.
-pub(crate) fn clamped(number: i128) -> i64 {
+pub(crate) fn nearest_price(number: i128) -> i64 {
     let held = number.max(-i128::from(MOST)).min(i128::from(MOST));
     held as i64
 }
 
 // The product of two numbers over 2^bits, rounded to the nearest.
-pub(crate) fn scaled(a: i64, b: i64, bits: u32) -> i64 {
+pub(crate) fn rounded_product(a: i64, b: i64, bits: u32) -> i64 {
     let product = i128::from(a).wrapping_mul(i128::from(b));
     let half = 1i128.wrapping_shl(bits) / 2;
-    clamped(product.wrapping_add(half).wrapping_shr(bits))
+    nearest_price(product.wrapping_add(half).wrapping_shr(bits))
 }
 
 // The square of a difference.

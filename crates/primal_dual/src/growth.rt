@@ -119,7 +119,7 @@ impl Growth {
     }
 
     fn meet(&mut self, area: u32) {
-        if !self.is_in.has(area as usize) && !self.is_met.has(area as usize) {
+        if !self.is_in.has_area(area as usize) && !self.is_met.has_area(area as usize) {
             self.is_met.mark(area as usize);
             self.rim.push(area);
         }
@@ -129,7 +129,7 @@ impl Growth {
     pub(crate) fn turn_to(&mut self, net: &Net, kind: usize) {
         self.choices.clear();
         for area in self.rim.as_slice() {
-            if !self.is_in.has(*area as usize) {
+            if !self.is_in.has_area(*area as usize) {
                 let choice = net.choice(*area as usize, kind);
                 self.choices.push(narrow(choice));
             }
@@ -230,7 +230,7 @@ impl Growth {
         let mut kept = 0usize;
         for place in 0..self.rim.len() {
             let area = self.rim.area(place);
-            if self.is_in.has(area) {
+            if self.is_in.has_area(area) {
                 continue;
             }
             if self.is_blocked(net, area, wish.kind) {
@@ -267,7 +267,7 @@ impl Growth {
             return i64::MAX;
         }
         for next in beside {
-            if !self.is_in.has(*next as usize) && !self.is_met.has(*next as usize) {
+            if !self.is_in.has_area(*next as usize) && !self.is_met.has_area(*next as usize) {
                 rest = rest.wrapping_add(wish.at(net, *next as usize));
             }
         }

@@ -103,7 +103,7 @@ impl Marks {
         put(&mut self.stamps, area, self.last);
     }
 
-    pub(crate) fn has(&self, area: usize) -> bool {
+    pub(crate) fn has_area(&self, area: usize) -> bool {
         at(&self.stamps, area, 0) == self.last
     }
 }

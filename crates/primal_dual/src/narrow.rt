@@ -9,7 +9,7 @@ impl Relaxation {
     pub(crate) fn become_narrow(&mut self, alloc: Global) -> Result<(), NoMemory> {
         let kept = self.best_rows(alloc)?;
         self.keep_rows(alloc, &kept)?;
-        self.is_shut = unused(alloc, &self.best_flows)?;
+        self.is_shut = are_zero(alloc, &self.best_flows)?;
         self.is_narrow = true;
         crate::point::take(&mut self.image.flows, &self.best_flows);
         crate::point::take(&mut self.image.prices, &self.best_prices);
@@ -30,7 +30,7 @@ impl Relaxation {
 }
 
 // Which numbers are 0.
-fn unused(alloc: Global, numbers: &[i64]) -> Result<Vec<bool>, NoMemory> {
+fn are_zero(alloc: Global, numbers: &[i64]) -> Result<Vec<bool>, NoMemory> {
     let mut is_unused = Vec::with_capacity(alloc, numbers.len())?;
     for number in numbers {
         is_unused.push(*number == 0)?;

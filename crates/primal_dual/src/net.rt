@@ -4,7 +4,7 @@
 ghost use Rattle.std.specs.Prelude.{◌≡◌, ◌<◌, ◌≤◌};
 ghost use Rattle.agg_model.specs.Problem.{areas};
 
-use crate::fixed::clamped;
+use crate::fixed::nearest_price;
 use crate::lists::{at, put};
 use agg_base::NoMemory;
 use agg_base::limits::DENOMINATOR;
@@ -70,9 +70,9 @@ impl Units {
     }
 
     // A cost in these units.
-    pub(crate) fn told(self, cost: i128) -> i64 {
+    pub(crate) fn of_cost(self, cost: i128) -> i64 {
         let halved = cost.wrapping_shr(self.halvings);
-        clamped(halved.wrapping_mul(i128::from(self.denominator)))
+        nearest_price(halved.wrapping_mul(i128::from(self.denominator)))
     }
 
     // The cost that a total in these units stands for, rounded up.
@@ -177,7 +177,7 @@ impl Net {
 
 // The classes that some area owns, and the kind of each class.
 fn kinds(alloc: Global, problem: &Problem) -> Result<(Vec<u8>, Vec<u8>), NoMemory> {
-    let is_owned = owned(alloc, problem)?;
+    let is_owned = are_owned(alloc, problem)?;
     let mut classes = Vec::new(alloc);
     let mut kind_of = vec![in alloc; NO_KIND; problem.classes() as usize]?;
     for class in 0..problem.classes() {
@@ -190,7 +190,7 @@ fn kinds(alloc: Global, problem: &Problem) -> Result<(Vec<u8>, Vec<u8>), NoMemor
 }
 
 // By class, whether an area owns it.
-fn owned(alloc: Global, problem: &Problem) -> Result<Vec<bool>, NoMemory> {
+fn are_owned(alloc: Global, problem: &Problem) -> Result<Vec<bool>, NoMemory> {
     let mut is_owned = vec![in alloc; false; problem.classes() as usize]?;
     for area in 0..problem.areas() {
         put(&mut is_owned, problem.own(area) as usize, true);
@@ -285,7 +285,7 @@ fn push_costs(
     for class in classes {
         if *class < problem.classes() {
             let distance = i128::from(problem.distance(own, *class));
-            costs.push(units.told(problem.weight(area).wrapping_mul(distance)))?;
+            costs.push(units.of_cost(problem.weight(area).wrapping_mul(distance)))?;
         }
     }
     Ok(())
@@ -302,7 +302,7 @@ fn ties(
         ties.push(Tie {
             near: (link.a as usize).wrapping_mul(kinds),
             far: (link.b as usize).wrapping_mul(kinds),
-            pull: units.told(link_cost(problem, link)),
+            pull: units.of_cost(link_cost(problem, link)),
         })?;
     }
     Ok(ties)
@@ -328,7 +328,7 @@ fn pulls(alloc: Global, areas: usize, kinds: usize, ties: &[Tie]) -> Result<Vec<
 
 fn add_pull(pulls: &mut [i64], area: usize, pull: i64) {
     let sum = i128::from(at(pulls, area, 0)).wrapping_add(i128::from(pull));
-    put(pulls, area, clamped(sum));
+    put(pulls, area, nearest_price(sum));
 }
 
 // Where the neighbours of each area begin.

@@ -51,13 +51,13 @@ impl Point {
 
     // Drops the prices of the rows that are not kept.
     pub(crate) fn keep(&mut self, alloc: Global, kept: &[usize]) -> Result<(), NoMemory> {
-        self.prices = picked(alloc, &self.prices, kept)?;
+        self.prices = at_places(alloc, &self.prices, kept)?;
         Ok(())
     }
 }
 
 // The numbers at some places.
-pub(crate) fn picked(
+pub(crate) fn at_places(
     alloc: Global,
     numbers: &[i64],
     places: &[usize],
@@ -78,13 +78,13 @@ pub(crate) fn take(numbers: &mut [i64], others: &[i64]) {
 
 fn reflect(numbers: &mut [i64], images: &[i64], anchors: &[i64], part: i64) {
     for (number, (image, anchor)) in numbers.iter_mut().zip(images.iter().zip(anchors)) {
-        *number = reflected(*number, *image, *anchor, part);
+        *number = reflection(*number, *image, *anchor, part);
     }
 }
 
-fn reflected(number: i64, image: i64, anchor: i64, part: i64) -> i64 {
+fn reflection(number: i64, image: i64, anchor: i64, part: i64) -> i64 {
     let beyond = image.wrapping_mul(2).wrapping_sub(number);
     let way = i128::from(anchor.wrapping_sub(beyond)).wrapping_mul(i128::from(part));
     let moved = way.wrapping_add(536_870_912) >> 30;
-    crate::fixed::clamped(i128::from(beyond).wrapping_add(moved))
+    crate::fixed::nearest_price(i128::from(beyond).wrapping_add(moved))
 }

@@ -100,7 +100,7 @@ impl BoundProvider for PrimalDual {
         ensures offer { IfOk result (λ sum. IsWithin problem.now share sum) }
     {
         self.asked = self.asked.saturating_add(1);
-        let sum = self.found(alloc, problem, domains, goal, share)?;
+        let sum = self.sum_for(alloc, problem, domains, goal, share)?;
         if is_within(&sum, problem, domains, share) {
             Ok(sum)
         } else {
@@ -126,7 +126,7 @@ fn is_within(sum: &RowSum, problem: &Problem, domains: &Domains, share: u64) -> 
 
 impl PrimalDual {
     // What the steps find for the domains.
-    fn found(
+    fn sum_for(
         &mut self,
         alloc: Global,
         problem: &Problem,

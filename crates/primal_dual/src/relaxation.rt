@@ -120,7 +120,7 @@ impl Relaxation {
             } else if is_allowed {
                 let distance = i128::from(problem.distance(problem.own(area), class));
                 let cost = problem.weight(area).wrapping_mul(distance);
-                cap = cap.min(self.net.units.told(cost));
+                cap = cap.min(self.net.units.of_cost(cost));
             }
         }
         put(&mut self.caps, area as usize, cap);
@@ -171,7 +171,7 @@ impl Relaxation {
     pub(crate) fn add_grown(&mut self, area: usize, kind: usize) -> Result<bool, NoMemory> {
         self.growth.turn_to(&self.net, kind);
         let choice = self.net.choice(area, kind);
-        if self.rows.has(choice, self.growth.beside()) {
+        if self.rows.has_row(choice, self.growth.beside()) {
             return Ok(false);
         }
         let scale = row_scale(&self.net, area);
@@ -215,7 +215,7 @@ impl Relaxation {
         self.image.keep(alloc, kept)?;
         self.anchor.keep(alloc, kept)?;
         self.start.keep(alloc, kept)?;
-        self.best_prices = crate::point::picked(alloc, &self.best_prices, kept)?;
+        self.best_prices = crate::point::at_places(alloc, &self.best_prices, kept)?;
         Ok(())
     }
 
@@ -283,5 +283,5 @@ fn row_scale(net: &Net, area: usize) -> i64 {
     let scale = mean
         .wrapping_add(pull)
         .wrapping_add(i128::from(net.units.denominator));
-    crate::fixed::clamped(scale.min(most))
+    crate::fixed::nearest_price(scale.min(most))
 }

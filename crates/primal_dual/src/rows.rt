@@ -79,7 +79,7 @@ impl Rows {
     }
 
     // Whether a row of this choice has these choices beside it.
-    pub(crate) fn has(&self, choice: usize, beside: &[u32]) -> bool {
+    pub(crate) fn has_row(&self, choice: usize, beside: &[u32]) -> bool {
         let key = key_of(beside);
         let mut row = at(&self.last, choice, NONE);
         for _ in 0..self.choice.len() {
@@ -158,13 +158,13 @@ fn push_all(list: &mut Vec<u32>, more: &[u32]) -> Result<(), NoMemory> {
 fn key_of(choices: &[u32]) -> u64 {
     let mut key = 0u64;
     for choice in choices {
-        key = key.wrapping_add(mixed(u64::from(*choice)));
+        key = key.wrapping_add(mix(u64::from(*choice)));
     }
     key
 }
 
 // A number that is as good as drawn for each number.
-fn mixed(number: u64) -> u64 {
+fn mix(number: u64) -> u64 {
     let number = number.wrapping_add(11_400_714_819_323_198_485);
     let number = (number ^ (number >> 30)).wrapping_mul(13_787_848_793_156_543_929);
     let number = (number ^ (number >> 27)).wrapping_mul(10_723_151_780_598_845_931);

@@ -1,5 +1,5 @@
 // One step of the method: fractions down what is left, and flows and prices up what the fractions break, each put back into its range.
-use crate::fixed::{ONE, clamped, scaled};
+use crate::fixed::{ONE, nearest_price, rounded_product};
 use crate::lists::{at, put};
 use crate::net::Tie;
 use crate::ranges::{CLOSED, to_ball, to_shares};
@@ -58,7 +58,7 @@ impl Relaxation {
         if !at(&self.is_open, choice, false) {
             return CLOSED;
         }
-        let way = scaled(at(&self.left, choice, 0), rate, bits);
+        let way = rounded_product(at(&self.left, choice, 0), rate, bits);
         let moved = at(&self.now.fractions, choice, 0).wrapping_sub(way);
         moved.max(-FAR).min(FAR)
     }
@@ -122,7 +122,7 @@ impl Relaxation {
             let bulk = i128::from(pull)
                 .wrapping_add(i128::from(load))
                 .wrapping_add(i128::from(LEAST_BULK));
-            let bulk = clamped(bulk).max(1);
+            let bulk = nearest_price(bulk).max(1);
             put(&mut self.bulk, area, bulk);
             let rate = 18_889_465_931_478_580_854_784i128.checked_div(i128::from(bulk));
             put(
@@ -174,7 +174,7 @@ fn moved_flow(flow: i64, pull: i64, gap: i64, bits: u32) -> i64 {
     if gap == 0 {
         return flow;
     }
-    clamped(i128::from(flow).wrapping_add(i128::from(scaled(pull, gap, bits))))
+    nearest_price(i128::from(flow).wrapping_add(i128::from(rounded_product(pull, gap, bits))))
 }
 
 // The price of a row, moved by how far its choice is above those beside the set.
@@ -186,7 +186,9 @@ fn moved_price(ahead: &[i64], row: Row<'_>, price: i64, bits: u32) -> i64 {
     if gap == 0 {
         return price.max(0);
     }
-    clamped(i128::from(price).wrapping_add(i128::from(scaled(row.pace, gap, bits)))).max(0)
+    nearest_price(i128::from(price).wrapping_add(i128::from(rounded_product(
+        row.pace, gap, bits,
+    )))).max(0)
 }
 
 // Adds the scale of a row to the loads of its choices.
@@ -199,5 +201,5 @@ fn load(loads: &mut [i64], row: Row<'_>) {
 
 fn add_load(loads: &mut [i64], choice: usize, scale: i64) {
     let sum = i128::from(at(loads, choice, 0)).wrapping_add(i128::from(scale));
-    put(loads, choice, clamped(sum));
+    put(loads, choice, nearest_price(sum));
 }

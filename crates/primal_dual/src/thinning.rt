@@ -1,5 +1,5 @@
 // Takes rows out of the best sum: those that cost nothing, and then those that lose least for their marks, until it has few enough.
-use crate::fixed::{clamped, over};
+use crate::fixed::{nearest_price, over};
 use crate::lists::{at, put, raise};
 use crate::net::Net;
 use crate::reduced::{least, pay_row, reduce};
@@ -37,7 +37,7 @@ impl Relaxation {
     // Drops rows that lose more and more for each mark, until so many marks are left.
     fn cut(&mut self, share: u64) {
         let mean = over(self.total(), i128::from(self.marks()));
-        let mut loss = clamped(over(mean, FIRST_PART)).max(1);
+        let mut loss = nearest_price(over(mean, FIRST_PART)).max(1);
         for _ in 0..MOST_GROWTHS {
             self.drop_rows(loss, share);
             self.drop_flows(loss, share);
@@ -95,7 +95,7 @@ impl Relaxation {
     fn row_loss(&mut self, place: usize, price: i64) -> i128 {
         let row = self.rows.row(place);
         let choice = row.choice;
-        let beside = changed_all(
+        let beside = loss_of_all(
             &mut self.left,
             &self.net,
             &self.is_open,
@@ -108,7 +108,7 @@ impl Relaxation {
 
     // What the total loses where the number at a choice changes by so much.
     fn loss(&mut self, choice: usize, by: i64) -> i128 {
-        changed(
+        loss_of(
             &mut self.left,
             &self.net,
             &self.is_open,
@@ -158,7 +158,7 @@ impl Relaxation {
 }
 
 // What the least numbers of the choices' areas lose where the number at each choice changes by so much.
-fn changed_all(
+fn loss_of_all(
     left: &mut [i64],
     net: &Net,
     is_open: &[bool],
@@ -168,14 +168,14 @@ fn changed_all(
 ) -> i128 {
     let mut loss = 0i128;
     for choice in choices {
-        let more = changed(left, net, is_open, caps, *choice as usize, by);
+        let more = loss_of(left, net, is_open, caps, *choice as usize, by);
         loss = loss.wrapping_add(more);
     }
     loss
 }
 
 // What the least number of a choice's area loses where the number at the choice changes by so much.
-fn changed(
+fn loss_of(
     left: &mut [i64],
     net: &Net,
     is_open: &[bool],

@@ -36,7 +36,7 @@ pub fn search(
     ensures feasible { IsFeasible problem.now grouping.now → IfOk result (λ found. IsFeasible problem.now found) }
     ensures cheap { IfOk result (λ found. cost problem.now found ≤ℤ cost problem.now grouping.now) }
 {
-    let found = found(alloc, problem, grouping, turns)?;
+    let found = find(alloc, problem, grouping, turns)?;
     no_worse(alloc, problem, grouping, found)
 }
 
@@ -59,7 +59,7 @@ pub fn search_near(
     ensures feasible { IsFeasible problem.now grouping.now → IfOk result (λ found. IsFeasible problem.now found) }
     ensures cheap { IfOk result (λ found. cost problem.now found ≤ℤ cost problem.now grouping.now) }
 {
-    let found = found_near(alloc, problem, grouping, wanted, turns)?;
+    let found = find_near(alloc, problem, grouping, wanted, turns)?;
     no_worse(alloc, problem, grouping, found)
 }
 
@@ -101,7 +101,7 @@ fn is_no_worse(
 }
 
 // What the search finds.
-fn found(
+fn find(
     alloc: Global,
     problem: &Problem,
     grouping: &Grouping,
@@ -121,7 +121,7 @@ fn found(
 }
 
 // What the search finds from wanted classes.
-fn found_near(
+fn find_near(
     alloc: Global,
     problem: &Problem,
     grouping: &Grouping,
@@ -225,7 +225,7 @@ impl Searcher {
         for area in 0..net.areas() {
             if at(&region_of, area as usize, 0) == NO_REGION {
                 self.explorer.explore(net, &mut self.state, area);
-                number(&mut region_of, self.explorer.found(), regions);
+                number(&mut region_of, self.explorer.found_areas(), regions);
                 class_of.push(self.state.class(area))?;
                 regions = regions.saturating_add(1);
             }

@@ -8,7 +8,7 @@ impl Searcher {
     pub(crate) fn descend(&mut self, net: &Net) {
         self.waiting.clear();
         for place in 0..self.state.changes() {
-            if let Some(area) = self.state.changed(place) {
+            if let Some(area) = self.state.area_of_change(place) {
                 self.await_around(net, area);
             }
         }

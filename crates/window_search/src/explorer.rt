@@ -31,7 +31,7 @@ impl Explorer {
     }
 
     // The areas that were found last. Where the region is poor they are all of it.
-    pub(crate) fn found(&self) -> &[u32] {
+    pub(crate) fn found_areas(&self) -> &[u32] {
         self.found.as_slice()
     }
 

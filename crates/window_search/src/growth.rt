@@ -86,7 +86,7 @@ impl Searcher {
 
     // Marks what was found last as met.
     fn meet(&mut self, met: u64) {
-        for area in self.explorer.found() {
+        for area in self.explorer.found_areas() {
             self.met.mark(*area, met);
         }
     }

@@ -10,7 +10,7 @@ impl Searcher {
     pub(crate) fn is_repaired(&mut self, net: &Net) -> bool {
         let mut fuel = FUEL;
         for place in 0..self.state.most_changes() {
-            let Some(area) = self.state.changed(place) else {
+            let Some(area) = self.state.area_of_change(place) else {
                 break;
             };
             match self.fuel_after(net, area, fuel) {

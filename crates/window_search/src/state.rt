@@ -95,7 +95,7 @@ impl State {
     }
 
     // The area of a change.
-    pub(crate) fn changed(&self, place: usize) -> Option<u32> {
+    pub(crate) fn area_of_change(&self, place: usize) -> Option<u32> {
         if place < self.changes && place < self.journal.len() {
             Some(self.journal[place].area)
         } else {
