@@ -1,5 +1,5 @@
 -- What the head of a topology says, and what it does not.
-use Rattle.std.proofs.Common.{◌≡◌, ◌∙◌, ◌<◌, ◌≤◌, ◌+◌, refl, sym, ap, subst, ℕ, List, [], ◌∷◌, ◌++◌, length, map, take, drop, get_or, arith, Bor}
+use Rattle.std.proofs.Common.{◌≡◌, ◌∙◌, ◌<◌, ◌≤◌, ◌+◌, refl, sym, ap, subst, ℕ, List, [], ◌∷◌, length, take, drop, get_or, Bor}
 use Rattle.std.specs.Prelude.{Option, Some, None, IfSome, IfNone, codes, slice_get}
 use Rattle.std.specs.Option.{option_map}
 use Rattle.std.specs.List.{AllByRecursion}
@@ -7,13 +7,12 @@ use Rattle.json_text.specs.Tree.{Json, Number, array, object, member_of}
 use Rattle.json_text.specs.Values.{json_of, pairs_of}
 use Rattle.json_text.specs.declared.tree.Tree.{Tree}
 use Rattle.map_values.specs.Members.{HasType}
-use Rattle.map_values.proofs.Values.{some_same, one_answer, one_array, object_same}
+use Rattle.map_values.proofs.Values.{some_same, one_answer, one_array}
 use Rattle.plane_edge.specs.declared.frame.Frame.{Frame}
 use Rattle.topo_reader.specs.Arcs.{SpellsFrame}
-use Rattle.topo_reader.specs.Faults.{Head, IsTopology}
 use Rattle.topo_reader.specs.Names.{BeginWith}
-use Rattle.topo_reader.specs.Topology.{IsPicked, ArePlaces, collection, alone}
-use Rattle.topo_reader.proofs.DecideHead.{pair_tree, frame_parts, picked_first, none_picked, collection_only}
+use Rattle.topo_reader.specs.Topology.{IsPicked, ArePlaces}
+use Rattle.topo_reader.proofs.DecideHead.{frame_parts, picked_first, none_picked, collection_only}
 use Rattle.topo_reader.proofs.TreeLists.{all_push, all_inside, mapped_more, mapped_at, mapped_all}
 
 abbrev pub NoPair : Json → List ℕ → Type 0

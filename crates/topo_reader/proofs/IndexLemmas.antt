@@ -1,5 +1,5 @@
 -- Indexes as texts, and as the whole numbers that were read of them.
-use Rattle.std.proofs.Common.{◌≡◌, ◌∙◌, ◌<◌, ◌&&◌, ◌^◌, nat_lt, refl, sym, ap, ap₂, subst, ℕ, zero, suc, Bool, true, false, List, [], ◌∷◌, length, reverse, arith, ℤ, pos, negsuc}
+use Rattle.std.proofs.Common.{◌≡◌, ◌∙◌, ◌<◌, ◌&&◌, ◌^◌, refl, sym, ap, ap₂, subst, ℕ, zero, suc, Bool, true, false, List, [], ◌∷◌, length, reverse, arith, ℤ, pos, negsuc}
 use Rattle.std.specs.Prelude.{Option, Some, None, slice_get, unwrap_or, FitsSigned}
 use Rattle.std.specs.Option.{option_map}
 use Rattle.std.specs.Int.{w64}
@@ -10,14 +10,21 @@ use Rattle.agg_base.specs.declared.numeral.Whole.{Whole}
 use Rattle.agg_base.specs.declared.numeral.Whole.TheVariants.{Not, Beyond, Is}
 use Rattle.agg_base.proofs.WholeText.{one_whole}
 use Rattle.json_text.proofs.Cases.{false_true}
-use Rattle.json_text.specs.Tree.{Json, Number}
 use Rattle.map_values.proofs.Values.{some_same, number_same}
 use Rattle.plane_edge.specs.Paths.{points_along}
 use Rattle.plane_edge.specs.declared.point.Point.{Point}
-use Rattle.topo_reader.specs.Indexes.{AreAnswers, AreRingAnswers, is_index, AreInRange, all_indexes, path_told, paths_told, CanClose, rings_along}
+use Rattle.topo_reader.specs.Indexes.{is_index, AreInRange, are_indexes, path_told, paths_told, CanClose, rings_along}
 use Rattle.topo_reader.specs.PlaceFaults.{ring_tree, IsIndex, AreIndexes, AreClosed}
-use Rattle.topo_reader.specs.Rings.{path_of, SpellsPath, SpellsRing}
+use Rattle.topo_reader.specs.Rings.{path_of, SpellsRing}
 use Rattle.topo_reader.proofs.Closed.{TellsPath, Closes, ring_of_parts, parts_of_ring}
+
+-- what the texts of a ring's indexes spell
+abbrev pub AreAnswers : List (List ℕ) → List Whole → Type 0
+AreAnswers = AllZip (λ text whole. IsWholeAnswer (SpellsWhole text) whole)
+
+-- the same of all rings
+abbrev pub AreRingAnswers : List (List (List ℕ)) → List (List Whole) → Type 0
+AreRingAnswers = AllZip AreAnswers
 
 -- ---- places in lists
 
@@ -36,7 +43,7 @@ some_behind f None y is = absurd (let never : None ≡ Some y = is in cc)
 some_behind f (Some x) y is = (x, refl)
 
 -- both parts of a test hold
-both : (a b : Bool) → (a && b) ≡ true → (a ≡ true) × (b ≡ true)
+pub both : (a b : Bool) → (a && b) ≡ true → (a ≡ true) × (b ≡ true)
 both true b is = (refl, is)
 both false b is = false_true is
 
@@ -123,19 +130,19 @@ ring_true arcs (t ∷ ts) (w ∷ ws) few answers all =
     ap (λ (b : Bool). b && list_all (λ index. is_index (length arcs) index) ws) here ∙ ring_true arcs ts ws few answers.1 all.1
 
 -- all indexes are in range
-pub rings_indexes : (arcs : List (List Point)) (texts : List (List (List ℕ))) (wholes : List (List Whole)) → AreRingAnswers texts wholes → all_indexes (length arcs) wholes ≡ true → AreIndexes arcs texts
+pub rings_indexes : (arcs : List (List Point)) (texts : List (List (List ℕ))) (wholes : List (List Whole)) → AreRingAnswers texts wholes → are_indexes (length arcs) wholes ≡ true → AreIndexes arcs texts
 rings_indexes arcs [] wholes answers is = tt
 rings_indexes arcs (t ∷ ts) [] answers is = absurd answers
 rings_indexes arcs (t ∷ ts) (w ∷ ws) answers is =
-    let parts = both (list_all (λ index. is_index (length arcs) index) w) (all_indexes (length arcs) ws) is in
+    let parts = both (list_all (λ index. is_index (length arcs) index) w) (are_indexes (length arcs) ws) is in
     (ring_indexes arcs t w answers.0 parts.0, rings_indexes arcs ts ws answers.1 parts.1)
 
-pub rings_true : (arcs : List (List Point)) (texts : List (List (List ℕ))) (wholes : List (List Whole)) → length arcs < 2 ^ 63 → AreRingAnswers texts wholes → AreIndexes arcs texts → all_indexes (length arcs) wholes ≡ true
+pub rings_true : (arcs : List (List Point)) (texts : List (List (List ℕ))) (wholes : List (List Whole)) → length arcs < 2 ^ 63 → AreRingAnswers texts wholes → AreIndexes arcs texts → are_indexes (length arcs) wholes ≡ true
 rings_true arcs [] [] few answers all = refl
 rings_true arcs [] (w ∷ ws) few answers all = absurd answers
 rings_true arcs (t ∷ ts) [] few answers all = absurd answers
 rings_true arcs (t ∷ ts) (w ∷ ws) few answers all =
-    ap (λ (b : Bool). b && all_indexes (length arcs) ws) (ring_true arcs t w few answers.0 all.0) ∙ rings_true arcs ts ws few answers.1 all.1
+    ap (λ (b : Bool). b && are_indexes (length arcs) ws) (ring_true arcs t w few answers.0 all.0) ∙ rings_true arcs ts ws few answers.1 all.1
 
 -- ---- closed rings
 
@@ -172,13 +179,13 @@ ring_closes arcs texts wholes ring few answers s =
     subst (λ (paths : List (List Point)). Closes paths) (sym (paths_are arcs texts wholes parts.paths few answers parts.told)) parts.closes
 
 -- rings that close do so along these points
-pub rings_closed : (arcs : List (List Point)) (texts : List (List (List ℕ))) (wholes : List (List Whole)) → AreRingAnswers texts wholes → all_indexes (length arcs) wholes ≡ true → AllByRecursion (CanClose arcs) wholes
+pub rings_closed : (arcs : List (List Point)) (texts : List (List (List ℕ))) (wholes : List (List Whole)) → AreRingAnswers texts wholes → are_indexes (length arcs) wholes ≡ true → AllByRecursion (CanClose arcs) wholes
     → AreClosed arcs texts (rings_along arcs wholes)
 rings_closed arcs [] [] answers is all = tt
 rings_closed arcs [] (w ∷ ws) answers is all = absurd answers
 rings_closed arcs (t ∷ ts) [] answers is all = absurd answers
 rings_closed arcs (t ∷ ts) (w ∷ ws) answers is all =
-    let parts = both (list_all (λ index. is_index (length arcs) index) w) (all_indexes (length arcs) ws) is in
+    let parts = both (list_all (λ index. is_index (length arcs) index) w) (are_indexes (length arcs) ws) is in
     (ring_spelled arcs t w answers.0 parts.0 all.0, rings_closed arcs ts ws answers.1 parts.1 all.1)
 
 pub rings_close : (arcs : List (List Point)) (texts : List (List (List ℕ))) (wholes : List (List Whole)) (points : List (List Point)) → length arcs < 2 ^ 63 → AreRingAnswers texts wholes → AreClosed arcs texts points → AllByRecursion (CanClose arcs) wholes
@@ -190,10 +197,10 @@ rings_close arcs (t ∷ ts) (w ∷ ws) (p ∷ ps) few answers s = (ring_closes a
 
 -- ---- all rings
 
-pub all_true : (count : ℕ) (rings : List (List Whole)) → AllByRecursion (AreInRange count) rings → all_indexes count rings ≡ true
+pub all_true : (count : ℕ) (rings : List (List Whole)) → AllByRecursion (AreInRange count) rings → are_indexes count rings ≡ true
 all_true count [] all = refl
-all_true count (r ∷ rs) all = ap (λ (b : Bool). b && all_indexes count rs) all.0 ∙ all_true count rs all.1
+all_true count (r ∷ rs) all = ap (λ (b : Bool). b && are_indexes count rs) all.0 ∙ all_true count rs all.1
 
-pub true_all : (count : ℕ) (rings : List (List Whole)) → all_indexes count rings ≡ true → AllByRecursion (AreInRange count) rings
+pub true_all : (count : ℕ) (rings : List (List Whole)) → are_indexes count rings ≡ true → AllByRecursion (AreInRange count) rings
 true_all count [] is = tt
-true_all count (r ∷ rs) is = let parts = both (list_all (λ index. is_index count index) r) (all_indexes count rs) is in (parts.0, true_all count rs parts.1)
+true_all count (r ∷ rs) is = let parts = both (list_all (λ index. is_index count index) r) (are_indexes count rs) is in (parts.0, true_all count rs parts.1)

@@ -31,6 +31,7 @@ mod IndexLemmas
 mod AreaLemmas
 -- what reading answers
 mod TellLemmas
+mod WholeLemmas
 mod LoopLemmas
 mod PlaceLemmas
 mod Within

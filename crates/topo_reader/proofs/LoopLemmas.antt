@@ -1,26 +1,27 @@
 -- The paths of rings, one index and one ring at a time.
-use Rattle.std.proofs.Common.{◌≡◌, ◌∙◌, ◌<◌, ◌≤◌, ◌+◌, ◌-◌, refl, sym, ap, subst, ℕ, zero, suc, Bool, true, false, List, [], ◌∷◌, ◌++◌, length, map, flat_map, take, drop, reverse, get_or, arith, append-nil, append_assoc, add-one, IsTrue, ◌↔◌}
+use Rattle.std.proofs.Common.{◌≡◌, ◌∙◌, ◌<◌, ◌≤◌, ◌+◌, ◌-◌, ◌&&◌, min, refl, sym, ap, ap₂, subst, ℕ, zero, suc, Bool, true, false, List, [], ◌∷◌, ◌++◌, length, flat_map, take, drop, reverse, get_or, arith, append-nil, append_assoc, IsTrue, ◌↔◌}
 use Rattle.std.specs.Prelude.{Option, Some, None, Vec, IfSome, IfNone}
 use Rattle.std.specs.declared.alloc.Global.{Global}
-use Rattle.std.specs.List.{AllByRecursion}
+use Rattle.std.specs.List.{AllByRecursion, list_all}
 use Rattle.std.proofs.Math.Seq.{drop-cons, take-append_seam}
-use Rattle.std.proofs.lemmas.List.{map_push, flat_map_more, length_push, take_all, get_or-take, reverse-append, reverse-reverse}
-use Rattle.std.proofs.lemmas.List.Sums.{sum_by_more, sum_by_more_le, sum_by_push, sum_by-append, sum_by-cons}
+use Rattle.std.proofs.lemmas.List.{flat_map_more, length_push, take_all, get_or-take, reverse-append, reverse-reverse}
+use Rattle.std.proofs.lemmas.List.Folds.{list_all_more}
+use Rattle.std.proofs.lemmas.List.Sums.{sum_by_more, sum_by_more_le, sum_by-cons}
 use Rattle.agg_base.specs.Lists.{lists_of}
+use Rattle.agg_base.specs.declared.limits.TheConstants.{STEPS}
 use Rattle.agg_base.specs.declared.numeral.Whole.{Whole}
 use Rattle.map_values.proofs.Values.{some_same}
 use Rattle.json_text.proofs.Cases.{false_true}
 use Rattle.plane_edge.proofs.OrderLemmas.{same_points_equal, same_point_itself}
 use Rattle.plane_edge.specs.Edges.{is_same_point}
 use Rattle.plane_edge.specs.Paths.{first_of, last_of, AreJoined, points_along}
+use Rattle.plane_edge.specs.Rings.{step_between, steps_of_ring}
 use Rattle.plane_edge.specs.declared.point.Point.{Point}
-use Rattle.topo_reader.specs.Indexes.{path_told, paths_told, begin_of, front_of, CanClose, ring_steps, all_steps, rings_along}
-use Rattle.topo_reader.proofs.FormLemmas.{lists_push}
+use Rattle.topo_reader.specs.Indexes.{is_index, AreInRange, path_told, paths_told, begin_of, front_of, CanClose, ring_steps, all_steps, rings_along}
+use Rattle.topo_reader.proofs.IndexLemmas.{both}
 use Rattle.topo_reader.proofs.PathLemmas.{last_some, joined_push, joined_at, joined_same}
-use Rattle.topo_reader.proofs.TreeLists.{all_push, all_inside, mapped_more, mapped_at, mapped_all}
-
-abbrev items : Vec Whole Global → List Whole
-items v = v.items
+use Rattle.topo_reader.proofs.StepLemmas.{no_step}
+use Rattle.topo_reader.proofs.TreeLists.{all_push, all_inside, taken_more, taken_at, mapped_more, mapped_at, mapped_all, pushed_lists}
 
 -- ---- whether a ring closes
 
@@ -59,18 +60,43 @@ closes arcs ring i b at long begin joined = (
     whole : AreJoined (Some b) (paths_told arcs ring) (Some at)
     whole = subst (λ (ps : List (List Point)). AreJoined (Some b) ps (Some at)) (mapped_all (path_told arcs) ring i long) joined
 
--- ---- whether all rings close
+-- ---- where a ring begins
 
-pub all_more : (P : List Whole → Type 0) (rings : List (Vec Whole Global)) (i : ℕ) (v : Vec Whole Global) → i < length rings → v ≡ get_or rings i v → AllByRecursion P (lists_of (take i rings)) → P v.items → AllByRecursion P (lists_of (take (i + 1) rings))
-all_more P rings i v low is all here =
-    subst (λ (rs : List (List Whole)). AllByRecursion P rs) (sym (mapped_more items rings i v low is)) (all_push P (lists_of (take i rings)) v.items all here)
+pub begin_nowhere : (arcs : List (List Point)) (ring : List Whole) → length ring ≤ 0 → begin_of (paths_told arcs ring) ≡ None
+begin_nowhere arcs [] none = refl
+begin_nowhere arcs (w ∷ ws) none = absurd (omega arith)
 
-pub all_there : (P : List Whole → Type 0) (rings : List (Vec Whole Global)) (i : ℕ) (v : Vec Whole Global) → i < length rings → v ≡ get_or rings i v → AllByRecursion P (lists_of rings) → P v.items
-all_there P rings i v low is all =
-    all_inside P (lists_of (take i rings)) v.items (lists_of (drop (i + 1) rings)) (subst (λ (rs : List (List Whole)). AllByRecursion P rs) (mapped_at items rings i v low is) all)
+pub begin_there : (arcs : List (List Point)) (ring : List Whole) (w : Whole) → 0 < length ring → w ≡ get_or ring 0 w → first_of (path_told arcs w) ≡ begin_of (paths_told arcs ring)
+begin_there arcs [] w some is = absurd (omega arith)
+begin_there arcs (v ∷ vs) w some is = ap (λ (u : Whole). first_of (path_told arcs u)) is
 
-pub all_done : (P : List Whole → Type 0) (rings : List (Vec Whole Global)) (i : ℕ) → length rings ≤ i → AllByRecursion P (lists_of (take i rings)) → AllByRecursion P (lists_of rings)
-all_done P rings i long all = subst (λ (rs : List (List Whole)). AllByRecursion P rs) (mapped_all items rings i long) all
+-- ---- indexes in range
+
+all_true_at : (p : Whole → Bool) (ring : List Whole) (i : ℕ) (w : Whole) → i < length ring → list_all p ring ≡ true → p (get_or ring i w) ≡ true
+all_true_at p [] i w low all = absurd (omega arith)
+all_true_at p (v ∷ vs) zero w low all = (both (p v) (list_all p vs) all).0
+all_true_at p (v ∷ vs) (suc i) w low all = all_true_at p vs i w (omega arith) (both (p v) (list_all p vs) all).1
+
+pub range_there : (count : ℕ) (ring : List Whole) (i : ℕ) (w : Whole) → i < length ring → w ≡ get_or ring i w → AreInRange count ring → is_index count w ≡ true
+range_there count ring i w low is all = ap (λ (v : Whole). is_index count v) is ∙ all_true_at (λ index. is_index count index) ring i w low all
+
+pub range_more : (count : ℕ) (ring : List Whole) (i : ℕ) (w : Whole) → i < length ring → w ≡ get_or ring i w → AreInRange count (take i ring) → is_index count w ≡ true → AreInRange count (take (i + 1) ring)
+range_more count ring i w low is all here =
+    list_all_more (λ index. is_index count index) ring i w low ∙ ap₂ (λ (a b : Bool). a && b) all (ap (λ (v : Whole). is_index count v) (sym is) ∙ here)
+
+pub range_done : (count : ℕ) (ring : List Whole) (i : ℕ) → length ring ≤ i → AreInRange count (take i ring) → AreInRange count ring
+range_done count ring i long all = ap (λ (ws : List Whole). list_all (λ index. is_index count index) ws) (sym (take_all i ring long)) ∙ all
+
+-- ---- what holds of all
+
+pub all_more : {X : Type 0} (P : X → Type 0) (xs : List X) (i : ℕ) (x : X) → i < length xs → x ≡ get_or xs i x → AllByRecursion P (take i xs) → P x → AllByRecursion P (take (i + 1) xs)
+all_more {X} P xs i x low is all here = subst (λ (ys : List X). AllByRecursion P ys) (sym (taken_more xs i x low is)) (all_push P (take i xs) x all here)
+
+pub all_there : {X : Type 0} (P : X → Type 0) (xs : List X) (i : ℕ) (x : X) → i < length xs → x ≡ get_or xs i x → AllByRecursion P xs → P x
+all_there {X} P xs i x low is all = all_inside P (take i xs) x (drop (i + 1) xs) (subst (λ (ys : List X). AllByRecursion P ys) (taken_at xs i x low is) all)
+
+pub all_done : {X : Type 0} (P : X → Type 0) (xs : List X) (i : ℕ) → length xs ≤ i → AllByRecursion P (take i xs) → AllByRecursion P xs
+all_done {X} P xs i long all = subst (λ (ys : List X). AllByRecursion P ys) (take_all i xs long) all
 
 -- ---- steps
 
@@ -86,33 +112,78 @@ steps_within arcs ring i w low is = subst (λ (v : Whole). ring_steps arcs (take
 pub steps_done : (arcs : List (List Point)) (ring : List Whole) (i : ℕ) → length ring ≤ i → ring_steps arcs (take i ring) ≡ ring_steps arcs ring
 steps_done arcs ring i long = ap (λ (ws : List Whole). ring_steps arcs ws) (take_all i ring long)
 
-pub total_more : (arcs : List (List Point)) (rings : List (Vec Whole Global)) (i : ℕ) (v : Vec Whole Global) → i < length rings → v ≡ get_or rings i v → all_steps arcs (lists_of (take (i + 1) rings)) ≡ all_steps arcs (lists_of (take i rings)) + ring_steps arcs v.items
-total_more arcs rings i v low is = ap (λ (rs : List (List Whole)). all_steps arcs rs) (mapped_more items rings i v low is) ∙ sum_by_push (ring_steps arcs) (lists_of (take i rings)) v.items
+pub total_more : (arcs : List (List Point)) (rings : List (List Whole)) (i : ℕ) (ring : List Whole) → i < length rings → ring ≡ get_or rings i ring → all_steps arcs (take (i + 1) rings) ≡ all_steps arcs (take i rings) + ring_steps arcs ring
+total_more arcs rings i ring low is = sum_by_more (ring_steps arcs) rings i ring low ∙ ap (λ (r : List Whole). all_steps arcs (take i rings) + ring_steps arcs r) (sym is)
 
-pub total_within : (arcs : List (List Point)) (rings : List (Vec Whole Global)) (i : ℕ) (v : Vec Whole Global) → i < length rings → v ≡ get_or rings i v → all_steps arcs (lists_of (take i rings)) + ring_steps arcs v.items ≤ all_steps arcs (lists_of rings)
-total_within arcs rings i v low is =
-    let cut : all_steps arcs (lists_of rings) ≡ all_steps arcs (lists_of (take i rings)) + all_steps arcs (v.items ∷ lists_of (drop (i + 1) rings)) =
-    ap (λ (rs : List (List Whole)). all_steps arcs rs) (mapped_at items rings i v low is) ∙ sum_by-append (ring_steps arcs) (lists_of (take i rings)) (v.items ∷ lists_of (drop (i + 1) rings)) in
-    let here : all_steps arcs (v.items ∷ lists_of (drop (i + 1) rings)) ≡ ring_steps arcs v.items + all_steps arcs (lists_of (drop (i + 1) rings)) = sum_by-cons (ring_steps arcs) v.items (lists_of (drop (i + 1) rings)) in
-    omega arith
+pub total_within : (arcs : List (List Point)) (rings : List (List Whole)) (i : ℕ) (ring : List Whole) → i < length rings → ring ≡ get_or rings i ring → all_steps arcs (take i rings) + ring_steps arcs ring ≤ all_steps arcs rings
+total_within arcs rings i ring low is = subst (λ (r : List Whole). all_steps arcs (take i rings) + ring_steps arcs r ≤ all_steps arcs rings) (sym is) (sum_by_more_le (ring_steps arcs) rings i ring low)
 
-pub total_done : (arcs : List (List Point)) (rings : List (Vec Whole Global)) (i : ℕ) → length rings ≤ i → all_steps arcs (lists_of (take i rings)) ≡ all_steps arcs (lists_of rings)
-total_done arcs rings i long = ap (λ (rs : List (List Whole)). all_steps arcs rs) (mapped_all items rings i long)
+pub total_done : (arcs : List (List Point)) (rings : List (List Whole)) (i : ℕ) → length rings ≤ i → all_steps arcs (take i rings) ≡ all_steps arcs rings
+total_done arcs rings i long = ap (λ (rs : List (List Whole)). all_steps arcs rs) (take_all i rings long)
 
 -- ---- points
 
-pub points_more : (arcs : List (List Point)) (rings : List (Vec Whole Global)) (i : ℕ) (v : Vec Whole Global) (all next : List (Vec Point Global)) (ring : Vec Point Global) → i < length rings → v ≡ get_or rings i v
-    → lists_of all ≡ rings_along arcs (lists_of (take i rings)) → ring.items ≡ points_along (paths_told arcs v.items) → next ≡ all ++ ring ∷ [] → lists_of next ≡ rings_along arcs (lists_of (take (i + 1) rings))
-points_more arcs rings i v all next ring low is all_is ring_is next_is =
-    ap (λ (vs : List (Vec Point Global)). lists_of vs) next_is
-    ∙ map_push (λ (w : Vec Point Global). w.items) all ring
-    ∙ ap (λ (ls : List (List Point)). ls ++ ring.items ∷ []) all_is
-    ∙ ap (λ (l : List Point). rings_along arcs (lists_of (take i rings)) ++ l ∷ []) ring_is
-    ∙ sym (map_push (λ (indexes : List Whole). points_along (paths_told arcs indexes)) (lists_of (take i rings)) v.items)
-    ∙ ap (λ (rs : List (List Whole)). rings_along arcs rs) (sym (mapped_more items rings i v low is))
+pub none_of_few : (steps : ℕ) → min STEPS steps ≡ 0 → steps ≡ 0
+none_of_few steps none = omega arith
 
-pub points_done : (arcs : List (List Point)) (rings : List (Vec Whole Global)) (i : ℕ) → length rings ≤ i → rings_along arcs (lists_of (take i rings)) ≡ rings_along arcs (lists_of rings)
-points_done arcs rings i long = ap (λ (rs : List (List Whole)). rings_along arcs rs) (mapped_all items rings i long)
+-- the steps of a ring along its paths
+abbrev pub steps_along : List (List Point) → List Whole → List (Point × Point)
+steps_along arcs ring = steps_of_ring (points_along (paths_told arcs ring))
+
+rests_none : (arcs : List (List Point)) (ring : List Whole) → ring_steps arcs ring ≡ 0 → flat_map (drop 1) (paths_told arcs ring) ≡ []
+rests_none arcs [] none = refl
+rests_none arcs (w ∷ ws) none =
+    let total : ring_steps arcs (w ∷ ws) ≡ (length (path_told arcs w) - 1) + ring_steps arcs ws = sum_by-cons (steps_told arcs) w ws in
+    ap₂ (λ (xs ys : List Point). xs ++ ys) (drop_rest (path_told arcs w) (omega arith)) (rests_none arcs ws (omega arith))
+  where
+    drop_rest : (path : List Point) → length path - 1 ≡ 0 → drop 1 path ≡ []
+    drop_rest [] short = refl
+    drop_rest (p ∷ []) short = refl
+    drop_rest (p ∷ q ∷ qs) short = absurd (omega arith)
+
+alone_none : (path : List Point) → length path - 1 ≡ 0 → steps_of_ring path ≡ []
+alone_none [] short = refl
+alone_none (p ∷ []) short = append-nil (step_between p p) ∙ no_step p
+alone_none (p ∷ q ∷ qs) short = absurd (omega arith)
+
+-- a ring whose paths have no steps has none
+pub no_steps : (arcs : List (List Point)) (ring : List Whole) → ring_steps arcs ring ≡ 0 → steps_along arcs ring ≡ []
+no_steps arcs [] none = refl
+no_steps arcs (w ∷ ws) none =
+    let total : ring_steps arcs (w ∷ ws) ≡ (length (path_told arcs w) - 1) + ring_steps arcs ws = sum_by-cons (steps_told arcs) w ws in
+    ap (λ (rest : List Point). steps_of_ring (path_told arcs w ++ rest)) (rests_none arcs ws (omega arith))
+    ∙ ap (λ (ps : List Point). steps_of_ring ps) (append-nil (path_told arcs w)) ∙ alone_none (path_told arcs w) (omega arith)
+
+-- all steps are those of the rings, one after another
+along_is : (arcs : List (List Point)) (rings : List (List Whole)) → flat_map steps_of_ring (rings_along arcs rings) ≡ flat_map (steps_along arcs) rings
+along_is arcs [] = refl
+along_is arcs (r ∷ rs) = ap (λ (ss : List (Point × Point)). steps_along arcs r ++ ss) (along_is arcs rs)
+
+along_more : (arcs : List (List Point)) (rings : List (List Whole)) (i : ℕ) (ring : List Whole) → i < length rings → ring ≡ get_or rings i ring
+    → flat_map steps_of_ring (rings_along arcs (take (i + 1) rings)) ≡ flat_map steps_of_ring (rings_along arcs (take i rings)) ++ steps_along arcs ring
+along_more arcs rings i ring low is =
+    ap (λ (rs : List (List Whole)). flat_map steps_of_ring (rings_along arcs rs)) (taken_more rings i ring low is)
+    ∙ along_is arcs (take i rings ++ ring ∷ []) ∙ sym (flat_map_more (steps_along arcs) [] (take i rings) ring)
+    ∙ ap (λ (ss : List (Point × Point)). ss ++ steps_along arcs ring) (sym (along_is arcs (take i rings)))
+
+pub points_more : (arcs : List (List Point)) (rings : List (List Whole)) (i : ℕ) (ring : List Whole) (all next : List (Vec Point Global)) (points : Vec Point Global) → i < length rings → ring ≡ get_or rings i ring
+    → flat_map steps_of_ring (lists_of all) ≡ flat_map steps_of_ring (rings_along arcs (take i rings)) → points.items ≡ points_along (paths_told arcs ring) → next ≡ all ++ points ∷ []
+    → flat_map steps_of_ring (lists_of next) ≡ flat_map steps_of_ring (rings_along arcs (take (i + 1) rings))
+points_more arcs rings i ring all next points low is all_are points_are next_is =
+    ap (λ (ls : List (List Point)). flat_map steps_of_ring ls) (pushed_lists all next points next_is)
+    ∙ sym (flat_map_more steps_of_ring [] (lists_of all) points.items)
+    ∙ ap₂ (λ (ss : List (Point × Point)) (ps : List Point). ss ++ steps_of_ring ps) all_are points_are
+    ∙ sym (along_more arcs rings i ring low is)
+
+pub points_less : (arcs : List (List Point)) (rings : List (List Whole)) (i : ℕ) (ring : List Whole) (all : List (Vec Point Global)) → i < length rings → ring ≡ get_or rings i ring
+    → flat_map steps_of_ring (lists_of all) ≡ flat_map steps_of_ring (rings_along arcs (take i rings)) → ring_steps arcs ring ≡ 0 → flat_map steps_of_ring (lists_of all) ≡ flat_map steps_of_ring (rings_along arcs (take (i + 1) rings))
+points_less arcs rings i ring all low is all_are none =
+    all_are ∙ sym (append-nil (flat_map steps_of_ring (rings_along arcs (take i rings))))
+    ∙ ap (λ (ss : List (Point × Point)). flat_map steps_of_ring (rings_along arcs (take i rings)) ++ ss) (sym (no_steps arcs ring none))
+    ∙ sym (along_more arcs rings i ring low is)
+
+pub points_done : (arcs : List (List Point)) (rings : List (List Whole)) (i : ℕ) → length rings ≤ i → flat_map steps_of_ring (rings_along arcs (take i rings)) ≡ flat_map steps_of_ring (rings_along arcs rings)
+points_done arcs rings i long = ap (λ (rs : List (List Whole)). flat_map steps_of_ring (rings_along arcs rs)) (take_all i rings long)
 
 pub ring_more : (arcs : List (List Point)) (ring : List Whole) (i : ℕ) (w : Whole) (front points next : List Point) → i < length ring → w ≡ get_or ring i w → points ≡ front ++ flat_map (drop 1) (paths_told arcs (take i ring))
     → next ≡ points ++ drop 1 (path_told arcs w) → next ≡ front ++ flat_map (drop 1) (paths_told arcs (take (i + 1) ring))

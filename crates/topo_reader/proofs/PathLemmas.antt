@@ -1,5 +1,5 @@
 -- The ends of paths, and paths joined one after another.
-use Rattle.std.proofs.Common.{◌≡◌, ◌∙◌, ◌<◌, ◌-◌, refl, sym, ap, subst, ℕ, suc, List, [], ◌∷◌, ◌++◌, length, reverse, get_or, arith}
+use Rattle.std.proofs.Common.{◌≡◌, ◌∙◌, ◌-◌, refl, sym, ap, ℕ, suc, List, [], ◌∷◌, ◌++◌, length, reverse, get_or, arith}
 use Rattle.std.specs.Prelude.{Option, Some, None, slice_get}
 use Rattle.std.proofs.lemmas.List.{reverse-append, reverse-reverse}
 use Rattle.std.proofs.lemmas.Option.{slice_get-get_or}

@@ -1,14 +1,13 @@
 -- What reading a topology answers.
-use Rattle.std.proofs.Common.{◌≡◌, ◌∙◌, ◌⊎◌, ◌≤◌, refl, sym, ap, subst, inl, inr, ℕ, Bool, List, [], ◌∷◌, ◌++◌, length, arith, Result, Ok, Err}
+use Rattle.std.proofs.Common.{◌≡◌, ◌⊎◌, ◌≤◌, refl, sym, subst, inl, inr, ℕ, Bool, List, [], ◌∷◌, ◌++◌, length, Result, Ok, Err}
 use Rattle.std.specs.Prelude.{Option, Some, None, codes, count_by, IfOk, IfErr}
 use Rattle.std.specs.List.{AllZip}
 use Rattle.std.proofs.lemmas.Slice.Zip.{all_zipped_more}
 use Rattle.json_text.specs.Lengths.{AreListsWithin}
-use Rattle.json_text.specs.Tree.{Json, array, member_of}
+use Rattle.json_text.specs.Tree.{Json, array}
 use Rattle.map_values.specs.Layers.{Layer}
 use Rattle.plane_edge.specs.Rings.{Area}
 use Rattle.plane_edge.specs.declared.coverage.Coverage.{Coverage}
-use Rattle.plane_edge.specs.declared.frame.Frame.{Frame}
 use Rattle.plane_edge.specs.declared.point.Point.{Point}
 use Rattle.topo_reader.specs.Arcs.{is_relative, SpellsArc}
 use Rattle.topo_reader.specs.ArcFaults.{BreaksArc, IsArcFault}
@@ -57,20 +56,20 @@ arc_fault tree class named head picked f is picked_is = unless f (IsArcFault (is
 
 -- arcs that were read
 abbrev pub AreArcs : Bool → List Json → List (List Point) → Type 0
-AreArcs relative parts thins = (told : List (List Point)) × AllZip (SpellsArc relative) parts told × AllZip IsThinned told thins
+AreArcs relative parts thins = (paths : List (List Point)) × AllZip (SpellsArc relative) parts paths × AllZip IsThinned paths thins
 
 pub no_places : (tree : Json) (class : List ℕ) (named : Option (List ℕ)) (head : Head) (picked : Json) (thins : List (List Point)) → IsTopology tree head → IsPicked head.objects named picked → AreArcs (is_relative head.frame) head.parts thins
     → ((places : List Json) → ¬ ArePlaces picked places) → IsFaultOf tree class named (NotPolygonal 0)
 no_places tree class named head picked thins is picked_is arcs none = inr (head, is, inr (picked, picked_is, inr (arcs.0, arcs.1, inl (none, refl))))
 
 pub place_fault : (tree : Json) (class : List ℕ) (named : Option (List ℕ)) (head : Head) (picked : Json) (thins : List (List Point)) (places : List Json) (f : TopoFault) → IsTopology tree head → IsPicked head.objects named picked
-    → AreArcs (is_relative head.frame) head.parts thins → ArePlaces picked places → UnlessMemory f (ForArcs thins (λ told. IsPlaceFault told class places f)) → IsFaultOf tree class named f
+    → AreArcs (is_relative head.frame) head.parts thins → ArePlaces picked places → UnlessMemory f (ForArcs thins (λ paths. IsPlaceFault paths class places f)) → IsFaultOf tree class named f
 place_fault tree class named head picked thins places f is picked_is arcs are =
-    unless f (ForArcs thins (λ told. IsPlaceFault told class places f)) (IsFirstFault tree class named f)
+    unless f (ForArcs thins (λ paths. IsPlaceFault paths class places f)) (IsFirstFault tree class named f)
     (λ broken. inr (head, is, inr (picked, picked_is, inr (arcs.0, arcs.1, inr (places, are, broken arcs.0 arcs.2)))))
 
 pub map_found : (tree : Json) (class : List ℕ) (named : Option (List ℕ)) (head : Head) (picked : Json) (thins : List (List Point)) (places : List Json) (areas : List Area) (passed : ℕ) → IsTopology tree head → IsPicked head.objects named picked
-    → AreArcs (is_relative head.frame) head.parts thins → ArePlaces picked places → ForArcs thins (λ told. SpellAreas told class places areas) → passed ≡ count_by is_passed places
+    → AreArcs (is_relative head.frame) head.parts thins → ArePlaces picked places → ForArcs thins (λ paths. SpellAreas paths class places areas) → passed ≡ count_by is_passed places
     → SpellsTopology tree class named (record { areas = areas; passed = passed; frame = head.frame })
 map_found tree class named head picked thins places areas passed is picked_is arcs are found count =
     topology_of tree class named (record { areas = areas; passed = passed; frame = head.frame })
@@ -111,10 +110,10 @@ arcs_none relative = ([], tt, tt)
 pub arcs_more : (relative : Bool) (parts more : List Json) (thins next : List (List Point)) (tree : Json) (points thin : List Point) → AreArcs relative parts thins → SpellsArc relative tree points → IsThinned points thin
     → more ≡ parts ++ tree ∷ [] → next ≡ thins ++ thin ∷ [] → AreArcs relative more next
 arcs_more relative parts more thins next tree points thin s spelled thinned more_is next_is =
-    let told = s.0 ++ points ∷ [] in (
-      told,
-      subst (λ (ts : List Json). AllZip (SpellsArc relative) ts told) (sym more_is) (all_zipped_more (SpellsArc relative) parts s.0 tree points s.1 spelled),
-      subst (λ (ls : List (List Point)). AllZip IsThinned told ls) (sym next_is) (all_zipped_more IsThinned s.0 thins points thin s.2 thinned),
+    let paths = s.0 ++ points ∷ [] in (
+      paths,
+      subst (λ (ts : List Json). AllZip (SpellsArc relative) ts paths) (sym more_is) (all_zipped_more (SpellsArc relative) parts s.0 tree points s.1 spelled),
+      subst (λ (ls : List (List Point)). AllZip IsThinned paths ls) (sym next_is) (all_zipped_more IsThinned s.0 thins points thin s.2 thinned),
     )
 
 pub arc_broken : (relative : Bool) (parts before : List Json) (tree : Json) (after : List Json) (thins : List (List Point)) (at : ℕ) (f : TopoFault) → AreArcs relative before thins → parts ≡ before ++ tree ∷ after → length before ≡ at

@@ -2,9 +2,7 @@
 use Rattle.std.proofs.Common.{◌≡◌, ◌∙◌, ◌-◌, refl, sym, ap, subst, ℕ, suc, Bool, true, false, if◌then◌else◌, List, [], ◌∷◌, ◌++◌, length, reverse, flat_map, drop, arith, append-nil, append_assoc, Ordering, Less, Equal, Greater}
 use Rattle.std.specs.Prelude.{Option, Some, None}
 use Rattle.std.specs.Ordering.{ordering_reverse, is_lt, is_eq}
-use Rattle.std.specs.List.{AllZip}
 use Rattle.std.proofs.lemmas.List.{reverse-append, length-reverse}
-use Rattle.json_text.proofs.Cases.{by_cases_of, false_true}
 use Rattle.map_values.proofs.Values.{some_same}
 use Rattle.plane_edge.proofs.OrderLemmas.{point_order, point_order_total, below_is_less, same_is_equal, same_points_equal, same_point_itself}
 use Rattle.plane_edge.specs.Edges.{is_same_point}
@@ -34,7 +32,7 @@ step_back a b = go (point_order a b) refl (point_order_total.antisymm b a)
     go Greater h k =
         other_way false true (same_is_equal b a ∙ ap is_eq (k ∙ ap ordering_reverse h)) (same_is_equal a b ∙ ap is_eq h) (below_is_less a b ∙ ap is_lt h) (below_is_less b a ∙ ap is_lt (k ∙ ap ordering_reverse h)) refl
 
-no_step : (p : Point) → step_between p p ≡ []
+pub no_step : (p : Point) → step_between p p ≡ []
 no_step p = ap (λ (t : Bool). if t then [] else in_order p p ∷ []) (same_point_itself p)
 
 some_step : (p q : Point) → is_same_point p q ≡ false → step_between p q ≡ in_order p q ∷ []

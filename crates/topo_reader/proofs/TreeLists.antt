@@ -1,8 +1,8 @@
 -- Lists of values of the program, one value at a time.
-use Rattle.std.proofs.Common.{◌≡◌, ◌∙◌, ◌<◌, ◌≤◌, ◌+◌, refl, sym, ap, subst, ℕ, zero, suc, List, [], ◌∷◌, ◌++◌, length, map, take, drop, get_or, arith, add-one}
+use Rattle.std.proofs.Common.{◌≡◌, ◌∙◌, ◌<◌, ◌≤◌, ◌+◌, refl, sym, ap, subst, ℕ, zero, suc, List, [], ◌∷◌, ◌++◌, length, map, take, drop, get_or, Bor, arith, add-one}
 use Rattle.std.specs.Prelude.{Vec}
 use Rattle.std.specs.declared.alloc.Global.{Global}
-use Rattle.std.specs.List.{AllByRecursion, AllZip}
+use Rattle.std.specs.List.{AllByRecursion}
 use Rattle.std.proofs.lemmas.List.{take_more, take_all, map-append, length-take-le}
 use Rattle.agg_base.specs.Lists.{lists_of}
 use Rattle.json_text.specs.Tree.{Json, array}
@@ -10,6 +10,7 @@ use Rattle.json_text.specs.Values.{json_of, list_of}
 use Rattle.json_text.specs.declared.tree.Tree.{Tree}
 use Rattle.map_values.proofs.Values.{one_array}
 use Rattle.topo_reader.specs.ArcFaults.{HasNumbers, IsArc}
+use Rattle.topo_reader.specs.Indexes.{rings_in}
 
 -- one more value
 pub listed_more : (xs : List Tree) (i : ℕ) (x : Tree) → i < length xs → x ≡ get_or xs i x → list_of (take (i + 1) xs) ≡ list_of (take i xs) ++ json_of x ∷ []
@@ -61,6 +62,12 @@ arc_items tree xs positions is form =
 
 -- ---- lists of what stands for each item
 
+pub taken_more : {X : Type 0} (xs : List X) (i : ℕ) (x : X) → i < length xs → x ≡ get_or xs i x → take (i + 1) xs ≡ take i xs ++ x ∷ []
+taken_more xs i x low is = take_more xs i x low ∙ ap (λ y. take i xs ++ y ∷ []) (sym is)
+
+pub taken_at : {X : Type 0} (xs : List X) (i : ℕ) (x : X) → i < length xs → x ≡ get_or xs i x → xs ≡ take i xs ++ x ∷ drop (i + 1) xs
+taken_at xs i x low is = cut_at xs i x low ∙ ap (λ y. take i xs ++ y ∷ drop (i + 1) xs) (sym is)
+
 pub mapped_more : {X Y : Type 0} (f : X → Y) (xs : List X) (i : ℕ) (x : X) → i < length xs → x ≡ get_or xs i x → map f (take (i + 1) xs) ≡ map f (take i xs) ++ f x ∷ []
 mapped_more {X} f xs i x low is = ap (λ (ys : List X). map f ys) (take_more xs i x low ∙ ap (λ (y : X). take i xs ++ y ∷ []) (sym is)) ∙ map-append f (take i xs) (x ∷ [])
 
@@ -75,6 +82,9 @@ listed_count xs i low = length_listed (take i xs) ∙ length-take-le i xs low
 
 pub pushed_lists : {X : Type 0} (vs next : List (Vec X Global)) (v : Vec X Global) → next ≡ vs ++ v ∷ [] → lists_of next ≡ lists_of vs ++ v.items ∷ []
 pushed_lists {X} vs next v is = ap (λ (ws : List (Vec X Global)). lists_of ws) is ∙ map-append (λ (w : Vec X Global). w.items) vs (v ∷ [])
+
+pub pushed_rings : (rings next : List (Bor (List Tree))) (ring : Bor (List Tree)) → next ≡ rings ++ ring ∷ [] → rings_in next ≡ rings_in rings ++ list_of ring.now ∷ []
+pushed_rings rings next ring is = ap rings_in is ∙ map-append (λ (r : Bor (List Tree)). list_of r.now) rings (ring ∷ [])
 
 pub listed_within : (xs : List Tree) (n : ℕ) → length (list_of xs) ≤ n → length xs ≤ n
 listed_within xs n few = let same = length_listed xs in omega arith

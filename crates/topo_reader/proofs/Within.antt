@@ -1,6 +1,5 @@
 -- Values whose lists are no longer than a bound.
-use Rattle.std.proofs.Common.{◌≡◌, ◌∙◌, refl, sym, ap, subst, ℕ, suc, ◌≤◌, true, false, List, [], ◌∷◌, length, arith, if◌then◌else◌, Some, None}
-use Rattle.std.specs.Prelude.{Option}
+use Rattle.std.proofs.Common.{◌≡◌, ◌∙◌, refl, ap, subst, ℕ, suc, ◌≤◌, true, false, List, [], ◌∷◌, length, arith, if◌then◌else◌, Some, None}
 use Rattle.std.specs.Option.{option_or}
 use Rattle.std.specs.Str.{bytes_eq}
 use Rattle.json_text.specs.Lengths.{item_count, AreListsWithin, AreItemsWithin, AreMembersWithin}

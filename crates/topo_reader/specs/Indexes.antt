@@ -1,21 +1,37 @@
 -- The indexes of rings as whole numbers, and the points along the arcs that they tell.
 use Rattle.std.specs.Prelude.{◌≡◌, ◌<◌, ◌-◌, ℕ, Bool, true, false, nat_lt, List, [], ◌∷◌, length, map, take, reverse, sum_by, unwrap_or, slice_get, Option, Some, None, codes, ℤ, pos, negsuc}
+use Rattle.std.specs.Borrow.{Bor}
 use Rattle.std.specs.List.{AllZip, list_all}
-use Rattle.agg_base.specs.Numbers.{SpellsWhole, IsWholeAnswer}
+use Rattle.agg_base.specs.Numbers.{IsWholeAnswer}
 use Rattle.agg_base.specs.declared.numeral.Whole.{Whole}
 use Rattle.agg_base.specs.declared.numeral.Whole.TheVariants.{Not, Beyond, Is}
-use Rattle.json_text.specs.Tree.{Json, array, member_of}
+use Rattle.json_text.specs.Tree.{Json, Number, array, member_of}
+use Rattle.json_text.specs.Values.{list_of}
+use Rattle.json_text.specs.declared.tree.Tree.{Tree}
 use Rattle.map_values.specs.Members.{HasType}
+use Rattle.map_values.specs.Positions.{SpellsInteger}
 use Rattle.plane_edge.specs.Paths.{AreJoined, first_of, points_along}
 use Rattle.plane_edge.specs.declared.point.Point.{Point}
 
--- what the texts of a ring's indexes spell
-abbrev pub AreAnswers : List (List ℕ) → List Whole → Type 0
-AreAnswers = AllZip (λ text whole. IsWholeAnswer (SpellsWhole text) whole)
+-- the values of rings that are borrowed
+abbrev pub rings_in : List (Bor (List Tree)) → List (List Json)
+rings_in rings = map (λ ring. list_of ring.now) rings
 
--- the same of all rings
-abbrev pub AreRingAnswers : List (List (List ℕ)) → List (List Whole) → Type 0
-AreRingAnswers = AllZip AreAnswers
+-- the numbers with the characters of each ring
+abbrev pub ring_numbers : List (List (List ℕ)) → List (List Json)
+ring_numbers rings = map (map Number) rings
+
+-- the values are these whole numbers, as far as they are any
+abbrev pub AreWholes : List Json → List Whole → Type 0
+AreWholes = AllZip (λ tree whole. IsWholeAnswer (SpellsInteger tree) whole)
+
+-- that holds of the whole numbers that the values of a ring are
+abbrev pub OfRing : List Json → (List Whole → Type 0) → Type 0
+OfRing ring P = (wholes : List Whole) → AreWholes ring wholes → P wholes
+
+-- that holds of those of all rings
+abbrev pub OfRings : List (List Json) → (List (List Whole) → Type 0) → Type 0
+OfRings rings P = (wholes : List (List Whole)) → AllZip AreWholes rings wholes → P wholes
 
 -- the polygons of a geometry, which need have no form
 pub data HasPolygons (tree : Json) (polygons : List Json) : Type 0 where
@@ -34,8 +50,8 @@ abbrev pub AreInRange : ℕ → List Whole → Type 0
 AreInRange count ring = list_all (λ index. is_index count index) ring ≡ true
 
 -- the same of all rings, as a test
-abbrev pub all_indexes : ℕ → List (List Whole) → Bool
-all_indexes count rings = list_all (λ ring. list_all (λ index. is_index count index) ring) rings
+abbrev pub are_indexes : ℕ → List (List Whole) → Bool
+are_indexes count rings = list_all (λ ring. list_all (λ index. is_index count index) ring) rings
 
 -- the index of the arc with that number, taken in its own order or backwards
 abbrev pub index_of : Bool → ℕ → ℤ
@@ -43,9 +59,9 @@ index_of true i = pos i
 index_of false i = negsuc i
 
 -- the points in their own order or backwards
-abbrev pub directed : Bool → List Point → List Point
-directed true points = points
-directed false points = reverse points
+abbrev pub in_direction : Bool → List Point → List Point
+in_direction true points = points
+in_direction false points = reverse points
 
 -- the points of the arc with that number; none where there is no such arc
 abbrev pub arc_number : List (List Point) → ℕ → List Point

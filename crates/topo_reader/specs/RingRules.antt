@@ -1,12 +1,12 @@
 -- The rules of the rings of a geometry, behind those of its form, its place and its class.
 use Rattle.std.specs.Prelude.{◌≡◌, ℕ, List}
 use Rattle.std.specs.List.{AllZip}
-use Rattle.agg_base.specs.declared.numeral.Whole.{Whole}
+use Rattle.json_text.specs.Tree.{Json}
 use Rattle.map_values.specs.Measured.{IsMeasured, HaveManySteps}
 use Rattle.plane_edge.specs.Rings.{Area}
 use Rattle.plane_edge.specs.declared.frame.Limit.TheVariants.{Edges}
 use Rattle.plane_edge.specs.declared.point.Point.{Point}
-use Rattle.topo_reader.specs.Indexes.{AreRingAnswers}
+use Rattle.topo_reader.specs.Indexes.{ring_numbers}
 use Rattle.topo_reader.specs.PlaceFaults.{AreIndexes, AreClosed}
 use Rattle.topo_reader.specs.Rules.{Unless, UnlessSome}
 use Rattle.topo_reader.specs.Thinned.{IsThinned}
@@ -27,6 +27,6 @@ pub record IsAreaOf (arcs : List (List Point)) (class : List ℕ) (steps : ℕ) 
   pub closed : AreClosed arcs texts points
   pub measured : IsMeasured class points steps area
 
--- that holds of all arcs that are thinned to these, and of all texts of rings that spell these
-abbrev pub ForRings : List (List Point) → List (List Whole) → (List (List Point) → List (List (List ℕ)) → Type 0) → Type 0
-ForRings thins rings P = (arcs : List (List Point)) (texts : List (List (List ℕ))) → AllZip IsThinned arcs thins → AreRingAnswers texts rings → P arcs texts
+-- that holds of all arcs that are thinned to these, and of the characters of the rings' numbers
+abbrev pub ForRings : List (List Point) → List (List Json) → (List (List Point) → List (List (List ℕ)) → Type 0) → Type 0
+ForRings thins rings P = (arcs : List (List Point)) (texts : List (List (List ℕ))) → AllZip IsThinned arcs thins → rings ≡ ring_numbers texts → P arcs texts

@@ -1,5 +1,5 @@
 -- Paths without repeated points, which have the same ends and the same steps.
-use Rattle.std.specs.Prelude.{◌≡◌, ◌-◌, ℕ, List, [], ◌∷◌, length}
+use Rattle.std.specs.Prelude.{◌≡◌, ◌-◌, List, [], ◌∷◌, length}
 use Rattle.std.specs.List.{AllZip}
 use Rattle.plane_edge.specs.Paths.{first_of, last_of}
 use Rattle.plane_edge.specs.Rings.{path_from}

@@ -30,7 +30,7 @@ pub(crate) fn read_arcs(
     parts: &[Tree],
 ) -> Result<Vec<Vec<Point>>, TopoFault>
     requires { length parts.now ≤ TEXT_BYTES }
-    ensures found { IfOk result (λ arcs. (told : List (List Point)) × AllZip (SpellsArc relative) (list_of parts.now) told × AllZip IsThinned told (lists_of arcs.items)) }
+    ensures found { IfOk result (λ arcs. (paths : List (List Point)) × AllZip (SpellsArc relative) (list_of parts.now) paths × AllZip IsThinned paths (lists_of arcs.items)) }
     ensures few { IfOk result (λ arcs. length arcs.items ≤ TEXT_BYTES) }
     ensures fault { IfErr result (λ f. UnlessMemory f (IsArcFault relative (list_of parts.now) f)) }
 {

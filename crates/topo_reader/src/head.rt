@@ -109,7 +109,7 @@ fn two_numbers(trees: &[Tree]) -> Option<(&Text, &Text)>
 }
 
 // The object of that name; where none is told, the only one.
-pub(crate) fn picked<'a>(objects: &'a Tree, named: &Option<Text>) -> Option<&'a Tree>
+pub(crate) fn object_of<'a>(objects: &'a Tree, named: &Option<Text>) -> Option<&'a Tree>
     ensures found { IfSome result (λ tree. IsPicked (json_of objects.now) named.now (json_of tree.now)) }
     ensures none { IfNone result ((tree : Json) → ¬ IsPicked (json_of objects.now) named.now tree) }
 {
@@ -171,12 +171,12 @@ fn is_name(text: &Text, name: &str) -> bool
 }
 
 // The geometries of an object: those of a collection, or the object itself; `None` where a collection has no list of them.
-pub(crate) fn places(picked: &Tree) -> Option<&[Tree]>
-    ensures found { IfSome result (λ trees. ArePlaces (json_of picked.now) (list_of trees.now)) }
-    ensures none { IfNone result ((trees : List Json) → ¬ ArePlaces (json_of picked.now) trees) }
+pub(crate) fn places(object: &Tree) -> Option<&[Tree]>
+    ensures found { IfSome result (λ trees. ArePlaces (json_of object.now) (list_of trees.now)) }
+    ensures none { IfNone result ((trees : List Json) → ¬ ArePlaces (json_of object.now) trees) }
 {
-    if has_type(picked, "GeometryCollection") {
-        return list_of(picked.member("geometries")?);
+    if has_type(object, "GeometryCollection") {
+        return list_of(object.member("geometries")?);
     }
-    Some(slice::from_ref(picked))
+    Some(slice::from_ref(object))
 }

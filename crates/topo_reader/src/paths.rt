@@ -1,19 +1,26 @@
-// The paths that the indexes of rings tell, and the points along them.
-ghost use Rattle.std.specs.Prelude.{◌≡◌, ◌<◌, ◌≤◌, ◌+◌, ◌-◌, ◌++◌, ◌↔◌, Some, length, drop, reverse, IsTrue, IfOk, IfSome, IfNone, OnOk, slice_get};
-ghost use Rattle.std.specs.List.{AllByRecursion, list_all};
+// The paths that the indexes of rings tell, and the points along them. An index is read wherever it is asked for, so that the rings take no
+// memory of their own.
+ghost use Rattle.std.specs.Prelude.{◌≡◌, ◌<◌, ◌≤◌, ◌+◌, ◌-◌, ◌++◌, ◌↔◌, Some, flat_map, length, drop, min, reverse, IsTrue, IfOk, IfSome, IfNone, OnOk};
+ghost use Rattle.std.specs.List.{AllByRecursion};
 ghost use Rattle.agg_base.specs.Lists.{lists_of};
+ghost use Rattle.agg_base.specs.declared.limits.TheConstants.{STEPS};
 ghost use Rattle.agg_base.specs.declared.numeral.Whole.TheVariants.{Is};
+ghost use Rattle.json_text.specs.Values.{list_of};
 ghost use Rattle.plane_edge.specs.Edges.{is_same_point};
 ghost use Rattle.plane_edge.specs.Paths.{first_of, last_of, points_along};
-ghost use Rattle.topo_reader.specs.Indexes.{is_index, AreInRange, index_of, arc_number, directed, path_told, paths_told, begin_of, front_of, CanClose, ring_steps, all_steps, rings_along};
+ghost use Rattle.plane_edge.specs.Rings.{steps_of_ring};
+ghost use Rattle.topo_reader.specs.Indexes.{rings_in, OfRing, OfRings, is_index, AreInRange, index_of, arc_number, in_direction, path_told, paths_told, begin_of, front_of, CanClose, ring_steps, all_steps, rings_along};
 
+use agg_base::limits::STEPS;
 use agg_base::{NoMemory, Whole};
+use json_text::Tree;
+use map_values::whole_of;
 use plane_edge::Point;
 use std::alloc::Global;
 
 // Whether all indexes are in range for so many arcs.
-pub(crate) fn are_indexes(rings: &[Vec<Whole>], count: usize) -> bool
-    ensures { IsTrue result ↔ AllByRecursion (AreInRange count) (lists_of rings.now) }
+pub(crate) fn are_indexes(rings: &[&[Tree]], count: usize) -> bool
+    ensures { OfRings (rings_in rings.now) (λ wholes. IsTrue result ↔ AllByRecursion (AreInRange count) wholes) }
 {
     for ring in rings {
         if !are_in_range(ring, count) {
@@ -24,10 +31,15 @@ pub(crate) fn are_indexes(rings: &[Vec<Whole>], count: usize) -> bool
 }
 
 // Whether the indexes of a ring are.
-fn are_in_range(ring: &[Whole], count: usize) -> bool
-    ensures { result ≡ list_all (λ index. is_index count index) ring.now }
+fn are_in_range(ring: &[Tree], count: usize) -> bool
+    ensures { OfRing (list_of ring.now) (λ wholes. IsTrue result ↔ AreInRange count wholes) }
 {
-    ring.iter().all(|index| is_index(*index, count))
+    for index in ring {
+        if !is_index(whole_of(index), count) {
+            return false;
+        }
+    }
+    true
 }
 
 // Whether an index is in range for so many arcs.
@@ -60,18 +72,18 @@ fn number_of(index: i64) -> (u64, bool)
 }
 
 // The arc that an index tells, and whether it is taken in its own order. An index of no arc has no points.
-fn told(arcs: &[Vec<Point>], index: Whole) -> (&[Point], bool)
-    ensures { path_told (lists_of arcs.now) index ≡ directed result.1 result.0.now }
+fn arc_of(arcs: &[Vec<Point>], index: Whole) -> (&[Point], bool)
+    ensures { path_told (lists_of arcs.now) index ≡ in_direction result.1 result.0.now }
 {
     match index {
-        Whole::Is(index) => told_by(arcs, index),
+        Whole::Is(index) => arc_of_number(arcs, index),
         Whole::Not | Whole::Beyond => (&[], true),
     }
 }
 
 // The same of a number.
-fn told_by(arcs: &[Vec<Point>], index: i64) -> (&[Point], bool)
-    ensures { path_told (lists_of arcs.now) (Is index) ≡ directed result.1 result.0.now }
+fn arc_of_number(arcs: &[Vec<Point>], index: i64) -> (&[Point], bool)
+    ensures { path_told (lists_of arcs.now) (Is index) ≡ in_direction result.1 result.0.now }
 {
     let (at, forward) = number_of(index);
     (arc_at(arcs, at), forward)
@@ -88,10 +100,10 @@ fn arc_at(arcs: &[Vec<Point>], at: u64) -> &[Point]
 }
 
 // Where the path of an index begins.
-fn first_told(arcs: &[Vec<Point>], index: Whole) -> Option<Point>
+fn first_point(arcs: &[Vec<Point>], index: Whole) -> Option<Point>
     ensures { result ≡ first_of (path_told (lists_of arcs.now) index) }
 {
-    let (points, forward) = told(arcs, index);
+    let (points, forward) = arc_of(arcs, index);
     if forward {
         points.first().copied()
     } else {
@@ -100,10 +112,10 @@ fn first_told(arcs: &[Vec<Point>], index: Whole) -> Option<Point>
 }
 
 // Where the path of an index ends.
-fn last_told(arcs: &[Vec<Point>], index: Whole) -> Option<Point>
+fn last_point(arcs: &[Vec<Point>], index: Whole) -> Option<Point>
     ensures { result ≡ last_of (path_told (lists_of arcs.now) index) }
 {
-    let (points, forward) = told(arcs, index);
+    let (points, forward) = arc_of(arcs, index);
     if forward {
         points.last().copied()
     } else {
@@ -112,18 +124,18 @@ fn last_told(arcs: &[Vec<Point>], index: Whole) -> Option<Point>
 }
 
 // Where the first path of a ring begins.
-fn begin_of(arcs: &[Vec<Point>], ring: &[Whole]) -> Option<Point>
-    ensures { result ≡ begin_of (paths_told (lists_of arcs.now) ring.now) }
+fn begin_of(arcs: &[Vec<Point>], ring: &[Tree]) -> Option<Point>
+    ensures { OfRing (list_of ring.now) (λ wholes. result ≡ begin_of (paths_told (lists_of arcs.now) wholes)) }
 {
-    match ring {
-        [index, ..] => first_told(arcs, *index),
-        [] => None,
-    }
+    let [index, ..] = ring else {
+        return None;
+    };
+    first_point(arcs, whole_of(index))
 }
 
 // Whether the arcs of each ring join and close.
-pub(crate) fn are_closed(arcs: &[Vec<Point>], rings: &[Vec<Whole>]) -> bool
-    ensures { IsTrue result ↔ AllByRecursion (CanClose (lists_of arcs.now)) (lists_of rings.now) }
+pub(crate) fn are_closed(arcs: &[Vec<Point>], rings: &[&[Tree]]) -> bool
+    ensures { OfRings (rings_in rings.now) (λ wholes. IsTrue result ↔ AllByRecursion (CanClose (lists_of arcs.now)) wholes) }
 {
     for ring in rings {
         if !is_closed(arcs, ring) {
@@ -134,29 +146,20 @@ pub(crate) fn are_closed(arcs: &[Vec<Point>], rings: &[Vec<Whole>]) -> bool
 }
 
 // Whether the arcs that the indexes of a ring tell join and close; it has one or more.
-fn is_closed(arcs: &[Vec<Point>], ring: &[Whole]) -> bool
-    ensures { IsTrue result ↔ CanClose (lists_of arcs.now) ring.now }
+fn is_closed(arcs: &[Vec<Point>], ring: &[Tree]) -> bool
+    ensures { OfRing (list_of ring.now) (λ wholes. IsTrue result ↔ CanClose (lists_of arcs.now) wholes) }
 {
     let Some(begin) = begin_of(arcs, ring) else {
         return false;
     };
     let mut at = begin;
-    for place in 0..ring.len() {
-        let index = index_at(ring, place);
-        let Some(to) = end_behind(arcs, index, at) else {
+    for index in ring {
+        let Some(to) = end_behind(arcs, whole_of(index), at) else {
             return false;
         };
         at = to;
     }
     is_same(at, begin)
-}
-
-// The index at a place of a ring.
-fn index_at(ring: &[Whole], place: usize) -> Whole
-    requires { place < length ring.now }
-    ensures { slice_get ring.now place ≡ Some result }
-{
-    ring[place]
 }
 
 // Whether two points are the same.
@@ -171,18 +174,18 @@ fn end_behind(arcs: &[Vec<Point>], index: Whole, at: Point) -> Option<Point>
     ensures found { IfSome result (λ to. (first_of (path_told (lists_of arcs.now) index) ≡ Some at) × (last_of (path_told (lists_of arcs.now) index) ≡ Some to)) }
     ensures none { IfNone result (¬ (first_of (path_told (lists_of arcs.now) index) ≡ Some at)) }
 {
-    let Some(from) = first_told(arcs, index) else {
+    let Some(from) = first_point(arcs, index) else {
         return None;
     };
     if !is_same(from, at) {
         return None;
     }
-    last_told(arcs, index)
+    last_point(arcs, index)
 }
 
 // Whether the rings have at most that many steps together. An arc has no point twice in a row, so it has one step less than points.
-pub(crate) fn have_few_steps(arcs: &[Vec<Point>], rings: &[Vec<Whole>], most: usize) -> bool
-    ensures { IsTrue result ↔ (all_steps (lists_of arcs.now) (lists_of rings.now) ≤ most) }
+pub(crate) fn have_few_steps(arcs: &[Vec<Point>], rings: &[&[Tree]], most: usize) -> bool
+    ensures { OfRings (rings_in rings.now) (λ wholes. IsTrue result ↔ (all_steps (lists_of arcs.now) wholes ≤ most)) }
 {
     let mut left = most;
     for ring in rings {
@@ -195,13 +198,14 @@ pub(crate) fn have_few_steps(arcs: &[Vec<Point>], rings: &[Vec<Whole>], most: us
 }
 
 // How many of so many steps are left behind a ring; `None` where it has more.
-fn steps_left(arcs: &[Vec<Point>], ring: &[Whole], most: usize) -> Option<usize>
-    ensures found { IfSome result (λ rest. ring_steps (lists_of arcs.now) ring.now + rest ≡ most) }
-    ensures none { IfNone result (most < ring_steps (lists_of arcs.now) ring.now) }
+fn steps_left(arcs: &[Vec<Point>], ring: &[Tree], most: usize) -> Option<usize>
+    ensures found { IfSome result (λ rest. OfRing (list_of ring.now) (λ wholes. ring_steps (lists_of arcs.now) wholes + rest ≡ most)) }
+    ensures left { IfSome result (λ rest. rest ≤ most) }
+    ensures none { IfNone result (OfRing (list_of ring.now) (λ wholes. most < ring_steps (lists_of arcs.now) wholes)) }
 {
     let mut left = most;
     for index in ring {
-        let steps = step_count(arcs, *index);
+        let steps = step_count(arcs, whole_of(index));
         if steps > left {
             return None;
         }
@@ -214,53 +218,75 @@ fn steps_left(arcs: &[Vec<Point>], ring: &[Whole], most: usize) -> Option<usize>
 fn step_count(arcs: &[Vec<Point>], index: Whole) -> usize
     ensures { result ≡ length (path_told (lists_of arcs.now) index) - 1 }
 {
-    let (points, _) = told(arcs, index);
+    let (points, _) = arc_of(arcs, index);
     points.len().saturating_sub(1)
 }
 
-// The points along the paths of all rings.
+// How many steps a ring has, and at most `STEPS`.
+fn ring_step_count(arcs: &[Vec<Point>], ring: &[Tree]) -> usize
+    ensures few { result ≤ STEPS }
+    ensures count { OfRing (list_of ring.now) (λ wholes. result ≡ min STEPS (ring_steps (lists_of arcs.now) wholes)) }
+{
+    match steps_left(arcs, ring, STEPS) {
+        Some(left) => STEPS - left,
+        None => STEPS,
+    }
+}
+
+// The points along the paths of the rings that have steps. The others have none to add, and a map may have many of them.
 pub(crate) fn points_of(
     alloc: Global,
     arcs: &[Vec<Point>],
-    rings: &[Vec<Whole>],
+    rings: &[&[Tree]],
 ) -> Result<Vec<Vec<Point>>, NoMemory>
-    ensures { IfOk result (λ all. lists_of all.items ≡ rings_along (lists_of arcs.now) (lists_of rings.now)) }
+    ensures { IfOk result (λ all. OfRings (rings_in rings.now) (λ wholes. flat_map steps_of_ring (lists_of all.items) ≡ flat_map steps_of_ring (rings_along (lists_of arcs.now) wholes))) }
 {
-    let mut all = Vec::with_capacity(alloc, rings.len())?;
+    let mut all = Vec::new(alloc);
     for ring in rings {
-        all.push(ring_points(alloc, arcs, ring)?)?;
+        let steps = ring_step_count(arcs, ring);
+        if steps == 0 {
+            continue;
+        }
+        all.push(ring_points(alloc, arcs, ring, steps)?)?;
     }
     Ok(all)
 }
 
-// The points of a ring along one path after another, of which each but the first is taken without its first point.
-fn ring_points(alloc: Global, arcs: &[Vec<Point>], ring: &[Whole]) -> Result<Vec<Point>, NoMemory>
-    ensures { IfOk result (λ points. points.items ≡ points_along (paths_told (lists_of arcs.now) ring.now)) }
+// The points of a ring along one path after another, of which each but the first is taken without its first point. There is room for one
+// more than so many.
+fn ring_points(
+    alloc: Global,
+    arcs: &[Vec<Point>],
+    ring: &[Tree],
+    steps: usize,
+) -> Result<Vec<Point>, NoMemory>
+    requires { steps ≤ STEPS }
+    ensures { IfOk result (λ points. OfRing (list_of ring.now) (λ wholes. points.items ≡ points_along (paths_told (lists_of arcs.now) wholes))) }
 {
-    let mut points = front_points(alloc, arcs, ring)?;
+    let mut points = Vec::with_capacity(alloc, steps + 1)?;
+    push_front(&mut points, arcs, ring)?;
     for index in ring {
-        push_path(&mut points, arcs, *index)?;
+        push_path(&mut points, arcs, whole_of(index))?;
     }
     Ok(points)
 }
 
-// The point where the first path of a ring begins.
-fn front_points(alloc: Global, arcs: &[Vec<Point>], ring: &[Whole]) -> Result<Vec<Point>, NoMemory>
-    ensures { IfOk result (λ points. points.items ≡ front_of (paths_told (lists_of arcs.now) ring.now)) }
+// Appends the point where the first path of a ring begins.
+fn push_front(points: &mut Vec<Point>, arcs: &[Vec<Point>], ring: &[Tree]) -> Result<(), NoMemory>
+    ensures { OnOk result (OfRing (list_of ring.now) (λ wholes. points.new.items ≡ points.old.items ++ front_of (paths_told (lists_of arcs.now) wholes))) }
 {
-    let mut points = Vec::new(alloc);
     let Some(begin) = begin_of(arcs, ring) else {
-        return Ok(points);
+        return Ok(());
     };
     points.push(begin)?;
-    Ok(points)
+    Ok(())
 }
 
 // Appends the points of the path that an index tells, but for the first.
 fn push_path(points: &mut Vec<Point>, arcs: &[Vec<Point>], index: Whole) -> Result<(), NoMemory>
     ensures { OnOk result (points.new.items ≡ points.old.items ++ drop 1 (path_told (lists_of arcs.now) index)) }
 {
-    let (arc, forward) = told(arcs, index);
+    let (arc, forward) = arc_of(arcs, index);
     if forward {
         push_rest(points, arc)
     } else {

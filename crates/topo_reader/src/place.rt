@@ -4,6 +4,7 @@ ghost use Rattle.agg_base.specs.Lists.{lists_of};
 ghost use Rattle.agg_base.specs.declared.limits.TheConstants.{AREAS, STEPS, TEXT_BYTES};
 ghost use Rattle.json_text.specs.Values.{json_of, list_of};
 ghost use Rattle.plane_edge.specs.Rings.{step_count};
+ghost use Rattle.topo_reader.specs.Indexes.{rings_in};
 ghost use Rattle.topo_reader.specs.PlaceFaults.{BreaksPlace, IsAreaBehind, SpellAreas, IsPlaceFault};
 ghost use Rattle.topo_reader.specs.RingRules.{BreaksRings, IsAreaOf, ForRings};
 ghost use Rattle.topo_reader.specs.Rules.{UnlessMemory};
@@ -12,9 +13,9 @@ ghost use Rattle.topo_reader.specs.Topology.{is_passed};
 
 use crate::TopoFault;
 use crate::paths::{are_closed, are_indexes, have_few_steps, points_of};
-use crate::rings::read_rings;
+use crate::rings::rings_of;
+use agg_base::Text;
 use agg_base::limits::{AREAS, STEPS};
-use agg_base::{Text, Whole};
 use json_text::Tree;
 use map_values::{area_of, class_of, is_null};
 use plane_edge::{Area, Limit, Point};
@@ -29,12 +30,12 @@ pub(crate) fn read_places(
 ) -> Result<(Vec<Area>, u32), TopoFault>
     requires few_arcs { length arcs.now ≤ TEXT_BYTES }
     requires few_places { length places.now ≤ TEXT_BYTES }
-    ensures found { IfOk result (λ p. ForArcs (lists_of arcs.now) (λ told. SpellAreas told name.now (list_of places.now) p.0.items)) }
+    ensures found { IfOk result (λ p. ForArcs (lists_of arcs.now) (λ paths. SpellAreas paths name.now (list_of places.now) p.0.items)) }
     ensures few_areas { IfOk result (λ p. length p.0.items ≤ AREAS) }
     ensures few_steps { IfOk result (λ p. step_count p.0.items ≤ STEPS) }
     ensures few_passed { IfOk result (λ p. p.1 ≤ TEXT_BYTES) }
     ensures passed { IfOk result (λ p. p.1 ≡ count_by is_passed (list_of places.now)) }
-    ensures fault { IfErr result (λ f. UnlessMemory f (ForArcs (lists_of arcs.now) (λ told. IsPlaceFault told name.now (list_of places.now) f))) }
+    ensures fault { IfErr result (λ f. UnlessMemory f (ForArcs (lists_of arcs.now) (λ paths. IsPlaceFault paths name.now (list_of places.now) f))) }
 {
     let mut areas = Vec::new(alloc);
     let mut passed = 0;
@@ -72,12 +73,12 @@ fn read_place(
 ) -> Result<Area, TopoFault>
     requires few_arcs { length arcs.now ≤ TEXT_BYTES }
     requires few_steps { steps ≤ STEPS }
-    ensures found { IfOk result (λ area. ForArcs (lists_of arcs.now) (λ told. IsAreaBehind told name.now count steps (json_of tree.now) area)) }
+    ensures found { IfOk result (λ area. ForArcs (lists_of arcs.now) (λ paths. IsAreaBehind paths name.now count steps (json_of tree.now) area)) }
     ensures room { IfOk result (λ area. count < AREAS) }
     ensures few { IfOk result (λ area. steps + length area.steps ≤ STEPS) }
-    ensures fault { IfErr result (λ f. UnlessMemory f (ForArcs (lists_of arcs.now) (λ told. BreaksPlace told name.now at count steps (json_of tree.now) f))) }
+    ensures fault { IfErr result (λ f. UnlessMemory f (ForArcs (lists_of arcs.now) (λ paths. BreaksPlace paths name.now at count steps (json_of tree.now) f))) }
 {
-    let Some(rings) = read_rings(alloc, tree)? else {
+    let Some(rings) = rings_of(alloc, tree)? else {
         return Err(TopoFault::NotPolygonal { place: at });
     };
     if count >= AREAS {
@@ -93,16 +94,16 @@ fn read_place(
 fn rings_area(
     alloc: Global,
     arcs: &[Vec<Point>],
-    rings: &[Vec<Whole>],
+    rings: &[&[Tree]],
     class: Text,
     at: u32,
     steps: usize,
 ) -> Result<Area, TopoFault>
     requires few_arcs { length arcs.now ≤ TEXT_BYTES }
     requires few_steps { steps ≤ STEPS }
-    ensures found { IfOk result (λ area. ForRings (lists_of arcs.now) (lists_of rings.now) (λ told texts. IsAreaOf told class steps texts area)) }
+    ensures found { IfOk result (λ area. ForRings (lists_of arcs.now) (rings_in rings.now) (λ paths texts. IsAreaOf paths class steps texts area)) }
     ensures few { IfOk result (λ area. steps + length area.steps ≤ STEPS) }
-    ensures fault { IfErr result (λ f. UnlessMemory f (ForRings (lists_of arcs.now) (lists_of rings.now) (λ told texts. BreaksRings told at steps texts f))) }
+    ensures fault { IfErr result (λ f. UnlessMemory f (ForRings (lists_of arcs.now) (rings_in rings.now) (λ paths texts. BreaksRings paths at steps texts f))) }
 {
     if !are_indexes(rings, arcs.len()) {
         return Err(TopoFault::BadIndex { place: at });

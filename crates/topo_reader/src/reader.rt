@@ -11,7 +11,7 @@ ghost use Rattle.topo_reader.specs.Topology.{SpellsTopology};
 ghost use Rattle.topo_reader.specs.declared.fault.TopoFault.{TopoFault};
 
 use crate::arcs::read_arcs;
-use crate::head::{picked, places, read_head};
+use crate::head::{object_of, places, read_head};
 use crate::place::read_places;
 use crate::{Pick, TopoFault};
 use json_text::Tree;
@@ -49,11 +49,11 @@ fn read_layer(alloc: Global, tree: &Tree, pick: &Pick) -> Result<Coverage, TopoF
     let Some((frame, objects, parts)) = head else {
         return Err(TopoFault::NotTopology);
     };
-    let Some(picked) = picked(objects, &pick.object) else {
+    let Some(object) = object_of(objects, &pick.object) else {
         return Err(TopoFault::NoObject);
     };
     let arcs = read_arcs(alloc, is_relative(&frame), parts)?;
-    let Some(places) = places(picked) else {
+    let Some(places) = places(object) else {
         return Err(TopoFault::NotPolygonal { place: 0 });
     };
     let (areas, passed) = read_places(alloc, &arcs, pick.class.as_str(), places)?;

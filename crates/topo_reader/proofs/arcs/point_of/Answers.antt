@@ -1,6 +1,6 @@
 use Rattle.std.proofs.Common.{◌∙◌, ap, ℤ, ◌+ℤ◌}
 use Rattle.json_text.specs.Values.{json_of}
-use Rattle.topo_reader.proofs.PointLemmas.{sums_spelled, first_whole, far_across, far_up, no_numbers, held}
+use Rattle.topo_reader.proofs.PointLemmas.{sums_spelled, far_across, far_up, no_numbers, held}
 use Rattle.topo_reader.proofs.arcs.point_of.Goals as goal
 
 pub returns-in_default-clause-none : goal.returns-in_default-clause-none

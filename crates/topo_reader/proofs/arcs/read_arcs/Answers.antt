@@ -7,7 +7,7 @@ use Rattle.json_text.specs.Values.{json_of, list_of}
 use Rattle.plane_edge.specs.declared.point.Point.{Point}
 use Rattle.topo_reader.specs.ArcFaults.{IsArcFault}
 use Rattle.topo_reader.specs.Rules.{UnlessMemory}
-use Rattle.topo_reader.proofs.AreaLemmas.{handed}
+use Rattle.topo_reader.proofs.AreaLemmas.{err_from}
 use Rattle.topo_reader.proofs.ReadLemmas.{arcs_more, arc_broken}
 use Rattle.topo_reader.proofs.TreeLists.{listed_at, listed_more, listed_count, pushed_lists}
 use Rattle.topo_reader.proofs.arcs.read_arcs.Goals as goal
@@ -17,7 +17,7 @@ returns-in_err-arc-clause-fault c =
     let i = c.loop-at.at in
     let xs = c.args.parts.now in
     let fault = c.in_err-arc.field-0.0 in
-    handed c.from_residual-in_err-arc.result fault (λ f. UnlessMemory f (IsArcFault c.args.relative (list_of xs) f)) c.from_residual-in_err-arc.ensures.1
+    err_from c.from_residual-in_err-arc.result fault (λ f. UnlessMemory f (IsArcFault c.args.relative (list_of xs) f)) c.from_residual-in_err-arc.ensures.1
     (arc_broken c.args.relative (list_of xs) (list_of (take i xs)) (json_of c.index-parts-at.result) (list_of (drop (i + 1) xs)) (lists_of c.loop-at.arcs.items) i fault c.loop-at.invariant.arcs
     (listed_at xs i c.index-parts-at.result (omega arith) c.index-parts-at.is) (listed_count xs i (omega arith)) c.in_err-arc.ensures.fault)
 

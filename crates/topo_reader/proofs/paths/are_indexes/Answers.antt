@@ -1,19 +1,19 @@
-use Rattle.std.proofs.Common.{◌∙◌, sym, ap, List}
-use Rattle.std.specs.List.{list_all}
-use Rattle.agg_base.specs.declared.numeral.Whole.{Whole}
+use Rattle.std.proofs.Common.{refl}
 use Rattle.json_text.proofs.Cases.{false_true}
-use Rattle.topo_reader.specs.Indexes.{is_index, AreInRange}
-use Rattle.topo_reader.proofs.LoopLemmas.{all_more, all_there}
+use Rattle.topo_reader.specs.Indexes.{AreInRange}
+use Rattle.topo_reader.proofs.LoopLemmas.{all_more, all_there, all_done}
+use Rattle.topo_reader.proofs.WholeLemmas.{ring_at, ring_count}
 use Rattle.topo_reader.proofs.paths.are_indexes.Goals as goal
 
 pub returns-then-not-are_in_range : goal.returns-then-not-are_in_range
-returns-then-not-are_in_range c = (
-  λ never. false_true never,
-  λ all. c.if-not-are_in_range.ensures ∙ ap (λ (ring : List Whole). list_all (λ index. is_index c.args.count index) ring) c.deref.ensures.value
-      ∙ all_there (AreInRange c.args.count) c.args.rings.now c.loop-ring.ring-index c.ring-item.result c.loop-ring-test.true c.ring-item.is all,
-)
+returns-then-not-are_in_range c = λ wholes s.
+    let at = ring_at c.args.rings.now wholes c.loop-ring.ring-index c.ring-item.result s c.loop-ring-test.true c.ring-item.is in
+    (λ never. false_true never, λ all. (c.if-not-are_in_range.ensures at.0 at.3).1 (all_there (AreInRange c.args.count) wholes c.loop-ring.ring-index at.0 at.1 at.2 all))
 
 pub loop-ring-preserved : goal.loop-ring-preserved
-loop-ring-preserved c =
-    all_more (AreInRange c.args.count) c.args.rings.now c.loop-ring.ring-index c.ring-item.result c.loop-ring-test.true c.ring-item.is c.loop-ring.invariant
-    (ap (λ (ring : List Whole). list_all (λ index. is_index c.args.count index) ring) (sym c.deref.ensures.value) ∙ sym c.if-not-are_in_range.ensures)
+loop-ring-preserved c = λ wholes s.
+    let at = ring_at c.args.rings.now wholes c.loop-ring.ring-index c.ring-item.result s c.loop-ring-test.true c.ring-item.is in
+    all_more (AreInRange c.args.count) wholes c.loop-ring.ring-index at.0 at.1 at.2 (c.loop-ring.invariant wholes s) ((c.if-not-are_in_range.ensures at.0 at.3).0 refl)
+
+pub returns : goal.returns
+returns c = λ wholes s. (λ _. all_done (AreInRange c.args.count) wholes c.loop-ring.ring-index (ring_count c.args.rings.now wholes c.loop-ring.ring-index s c.loop-ring-test.false) (c.loop-ring.invariant wholes s), λ _. refl)

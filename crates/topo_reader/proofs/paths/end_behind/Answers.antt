@@ -8,7 +8,7 @@ returns-then-not-is_same-clause-none c = other_begin (path_told (lists_of c.args
 
 pub returns-clause-found : goal.returns-clause-found
 returns-clause-found c =
-    end_some c.last_told.result (path_told (lists_of c.args.arcs.now) c.args.index) c.in-Some.from c.args.at c.last_told.ensures c.in-Some.ensures c.if-not-is_same.ensures
+    end_some c.last_point.result (path_told (lists_of c.args.arcs.now) c.args.index) c.in-Some.from c.args.at c.last_point.ensures c.in-Some.ensures c.if-not-is_same.ensures
 
 pub returns-clause-none : goal.returns-clause-none
-returns-clause-none c = end_none c.last_told.result (path_told (lists_of c.args.arcs.now) c.args.index) c.in-Some.from c.args.at c.last_told.ensures c.in-Some.ensures
+returns-clause-none c = end_none c.last_point.result (path_told (lists_of c.args.arcs.now) c.args.index) c.in-Some.from c.args.at c.last_point.ensures c.in-Some.ensures

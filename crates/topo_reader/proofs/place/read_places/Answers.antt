@@ -1,4 +1,4 @@
-use Rattle.std.proofs.Common.{◌≡◌, ◌+◌, ℕ, List, length, sym, ap, take, drop, arith, rules}
+use Rattle.std.proofs.Common.{◌≡◌, ◌+◌, List, length, sym, ap, take, drop, arith, rules}
 use Rattle.std.proofs.lemmas.Grind.{common_steps}
 use Rattle.agg_base.specs.Lists.{lists_of}
 use Rattle.json_text.specs.Values.{json_of, list_of}
@@ -6,7 +6,7 @@ use Rattle.plane_edge.specs.declared.edge.Edge.{Edge}
 use Rattle.topo_reader.specs.PlaceFaults.{IsPlaceFault}
 use Rattle.topo_reader.specs.Rules.{UnlessMemory}
 use Rattle.topo_reader.specs.Thinned.{ForArcs}
-use Rattle.topo_reader.proofs.AreaLemmas.{handed}
+use Rattle.topo_reader.proofs.AreaLemmas.{err_from}
 use Rattle.topo_reader.proofs.PlaceLemmas.{passed_next, area_next, read_fault, counted_fault}
 use Rattle.topo_reader.proofs.TreeLists.{listed_at, listed_more, listed_count}
 use Rattle.topo_reader.proofs.place.read_places.Goals as goal
@@ -21,7 +21,7 @@ returns-in_err-area-clause-fault c =
     let areas = c.loop-at.areas.items in
     let fault = c.in_err-area.field-0.0 in
     let count : c.len-count.result ≡ length c.loop-at.areas.items = first_of (omega arith, search rules, grind (arith, common_steps)) in
-    handed c.from_residual.result fault (λ f. UnlessMemory f (ForArcs thins (λ told. IsPlaceFault told name (list_of xs) f))) c.from_residual.ensures.1
+    err_from c.from_residual.result fault (λ f. UnlessMemory f (ForArcs thins (λ paths. IsPlaceFault paths name (list_of xs) f))) c.from_residual.ensures.1
     (read_fault thins name (list_of xs) (list_of (take i xs)) tree (list_of (drop (i + 1) xs)) areas c.loop-at.steps c.loop-at.passed i fault c.loop-at.invariant
     (listed_at xs i c.index-places-at.result (omega arith) c.index-places-at.is) (listed_count xs i (omega arith)) (sym c.if-is_passed.ensures)
     (counted_fault thins name areas i c.len-count.result c.loop-at.steps tree fault count c.in_err-area.ensures.fault))
