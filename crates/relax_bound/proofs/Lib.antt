@@ -1,0 +1,16 @@
+pub mod SumLemmas
+pub mod LeastLemmas
+pub mod GainLemmas
+pub mod PushLemmas
+pub mod LevelLemmas
+pub mod ClimbLemmas
+pub mod UnitLemmas
+pub mod TipLemmas
+pub mod StartLemmas
+pub mod NumberLemmas
+pub mod LeadLemmas
+pub mod StateLemmas
+pub mod FormLemmas
+pub mod StepLemmas
+pub mod AscentLemmas
+pub mod LeanLemmas

@@ -1,0 +1,4 @@
+pub mod Ascents
+pub mod Levels
+pub mod Leads
+pub mod Climbs
