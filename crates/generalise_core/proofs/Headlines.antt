@@ -14,7 +14,7 @@ use Rattle.branch_bound.specs.Trees.{IsDeep}
 use Rattle.row_laws.specs.Trees.{split_count}
 use Rattle.row_laws.specs.declared.bound.Bound.TheVariants.{Least}
 use Rattle.generalise_core.specs.Answers.{AnswersProblem, IsDrawn}
-use Rattle.generalise_core.specs.Spent.{IsUsedUp}
+use Rattle.generalise_core.specs.Spent.{IsUsedUp, HasAscents}
 use Rattle.generalise_core.specs.States.{with_all}
 use Rattle.generalise_core.specs.Runs.{Answer, map_due, dues, PutsOut}
 use Rattle.generalise_core.specs.Plans.{PlansFiles}
@@ -154,6 +154,11 @@ spent_of old new words result all e =
         → IsUsedUp a.problem a.request.splits g.bound a.outcome.certificate.tree
     used_up a g (inl all) = inl all
     used_up a g (inr deep) = inr (g.proves.allowed, g.proves.root, deep)
+
+pub ascents_of : (old new : ShelfState) (words : List (List ℕ)) (result : Status) → Stated old new words result → HasGrouping result
+    → PutsOut old new words (λ a. HasAscents a.problem a.request.splits a.outcome.certificate.tree)
+ascents_of old new words result all has =
+    puts_weaker old new words OfGrouping _ (λ a is. (is.0.share, is.0.proves.allowed, is.0.dealt, is.0.proves.root, is.0.ascents)) (of_grouping old new words result all has)
 
 pub enough_of : (old new : ShelfState) (words : List (List ℕ)) (result : Status) → Stated old new words result → result ≡ status.Within
     → PutsOut old new words (λ a. ¬ HasEnough a.problem a.request.splits)

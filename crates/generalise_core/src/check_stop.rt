@@ -21,7 +21,7 @@ impl Source {
     ghost use Rattle.generalise_core.specs.CheckLines.{missed_line, long_line};
 
     // The line that says that it was not read.
-    fn missed(self) -> &'static str
+    fn fault_line(self) -> &'static str
         ensures { result.now ≡ missed_line self }
     {
         match self {
@@ -65,7 +65,7 @@ impl CheckStop {
         ensures { result.now ≡ line_of_stop self.now }
     {
         match self {
-            CheckStop::Missed(source) => source.missed(),
+            CheckStop::Missed(source) => source.fault_line(),
             CheckStop::TooLong(source) => source.too_long(),
             CheckStop::Refused(line) => line.as_str(),
         }

@@ -9,7 +9,7 @@ ghost use Rattle.branch_bound.specs.Enough.{HasEnough};
 ghost use Rattle.cert_check.specs.declared.verdict.Verdict.TheVariants.{Valid};
 ghost use Rattle.check_steps.specs.Cases.{IsValidCase, HoldsCase};
 ghost use Rattle.generalise_core.specs.Answers.{AnswersProblem};
-ghost use Rattle.generalise_core.specs.Spent.{IsUsedUp};
+ghost use Rattle.generalise_core.specs.Spent.{IsUsedUp, HasAscents};
 ghost use Rattle.generalise_core.specs.CheckWords.{IsCheck, AreUnspelled};
 ghost use Rattle.generalise_core.specs.Checks.{Checking, IsCheckTold, RefusesCheckTold};
 ghost use Rattle.generalise_core.specs.CheckRuns.{Judges, SaysCheckRefusal, SaysCheckReadFault, IsCheckHeard};
@@ -38,7 +38,8 @@ use std::alloc::Global;
 /// - `Usage` comes exactly where the words are in no such form, and the usage is said.
 /// - `Refused` comes exactly where one of the steps refuses a file, with the line that says which and why.
 /// - `Done`, `Within` and `Hopeless` come where all is stored and said, as the bound is the cost, is below it, or no grouping is feasible.
-///   With `Within` the tree has exactly N splits, or each of its leaves of that bound stands at the greatest depth.
+///   With `Within` the tree has exactly N splits, or each of its leaves of that bound stands at the greatest depth. With `Done` and `Within`
+///   each leaf whose areas have more than one class is worth at least some ascent over its domains.
 /// - `ReadFault` comes only where a fetch failed, with the line that says of which file, and `WriteFault` only where a store or a say did.
 /// - `Memory` comes where memory runs out, at any point.
 ///
@@ -57,6 +58,7 @@ pub fn run<S: Shelf, W: Crew>(alloc: Global, words: &Words, shelf: &mut S, crew:
         (b c : ℤ) × (a.outcome.certificate.bound ≡ Some b) × (a.outcome.certificate.cost ≡ Some c) × (b <ℤ c)) }
     ensures spent { result ≡ Status.Within → PutsOut (S.state shelf.old) (S.state shelf.new) words.now (λ a.
         (b : ℤ) × (a.outcome.certificate.bound ≡ Some b) × IsUsedUp a.problem a.request.splits b a.outcome.certificate.tree) }
+    ensures ascents { (¬ IsCheck words.now) → HasGrouping result → PutsOut (S.state shelf.old) (S.state shelf.new) words.now (λ a. HasAscents a.problem a.request.splits a.outcome.certificate.tree) }
     ensures enough { result ≡ Status.Within → PutsOut (S.state shelf.old) (S.state shelf.new) words.now (λ a. ¬ HasEnough a.problem a.request.splits) }
     ensures union { (¬ IsCheck words.now) → HasGrouping result → PutsOut (S.state shelf.old) (S.state shelf.new) words.now (λ a.
         (text : List ℕ) × (a.outcome.map ≡ Some text) × IsDrawnMap (odds_of a.checked.areas) a.outcome.certificate.grouping a.classes.names a.checked.frame text) }

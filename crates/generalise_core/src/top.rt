@@ -12,7 +12,7 @@ ghost use Rattle.generalise_core.specs.PlanDues.{due_of};
 ghost use Rattle.cert_text.specs.declared.certificate.CertStatus.{CertStatus};
 ghost use Rattle.branch_bound.specs.Enough.{HasEnough};
 ghost use Rattle.generalise_core.specs.Answers.{AnswersProblem};
-ghost use Rattle.generalise_core.specs.Spent.{IsUsedUp};
+ghost use Rattle.generalise_core.specs.Spent.{IsUsedUp, HasAscents};
 ghost use Rattle.generalise_core.specs.Codes.{status_of, HasGrouping, MayEndAs, MayFailAs};
 ghost use Rattle.generalise_core.specs.Stops.{line_of, status_of_stop, usage_line};
 ghost use Rattle.generalise_core.specs.Puts.{all_stored, IsPartlyPut};
@@ -186,6 +186,7 @@ pub(crate) fn generalise_words<S: Shelf, W: Crew>(
         (b c : ℤ) × (a.outcome.certificate.bound ≡ Some b) × (a.outcome.certificate.cost ≡ Some c) × (b <ℤ c)) }
     ensures spent { result ≡ Status.Within → PutsOut (S.state shelf.old) (S.state shelf.new) words.now (λ a.
         (b : ℤ) × (a.outcome.certificate.bound ≡ Some b) × IsUsedUp a.problem a.request.splits b a.outcome.certificate.tree) }
+    ensures ascents { HasGrouping result → PutsOut (S.state shelf.old) (S.state shelf.new) words.now (λ a. HasAscents a.problem a.request.splits a.outcome.certificate.tree) }
     ensures enough { result ≡ Status.Within → PutsOut (S.state shelf.old) (S.state shelf.new) words.now (λ a. ¬ HasEnough a.problem a.request.splits) }
     ensures union { HasGrouping result → PutsOut (S.state shelf.old) (S.state shelf.new) words.now (λ a.
         (text : List ℕ) × (a.outcome.map ≡ Some text) × IsDrawnMap (odds_of a.checked.areas) a.outcome.certificate.grouping a.classes.names a.checked.frame text) }

@@ -1,3 +1,4 @@
 mod TreeSpellings
 mod SpellingLemmas
 mod StateLemmas
+pub mod AscentLemmas

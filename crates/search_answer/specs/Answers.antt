@@ -11,6 +11,7 @@ use Rattle.row_laws.specs.declared.tree.Tree.{Leaf as LeafNode}
 use Rattle.branch_bound.specs.Trees.{IsDeep}
 use Rattle.branch_bound.specs.Enough.{HasEnough}
 use Rattle.branch_bound.specs.Outcomes.{Proves}
+use Rattle.search_answer.specs.Ascents.{AreAboveAscents, IsDealt}
 use Rattle.cert_text.specs.declared.certificate.Certificate.{Certificate}
 use Rattle.cert_text.specs.declared.certificate.CertStatus.{CertStatus}
 use Rattle.cert_text.specs.declared.certificate.CertStatus.TheVariants.{Optimal, Within, Hopeless}
@@ -26,7 +27,8 @@ IsStatusOf b c Within = b <ℤ c
 IsStatusOf b c Hopeless = ⊥
 
 -- A feasible grouping is stated that costs no more than one region for each part, with its cost and a bound, which the tree proves. Where the
--- bound is below the cost, the tree has all splits that it may have, or each leaf of this bound stands at the greatest depth.
+-- bound is below the cost, the tree has all splits that it may have, or each leaf of this bound stands at the greatest depth. Each leaf but `Fixed` is
+-- worth at least some ascent over its domains with its share.
 pub record StatesGrouping (p : Problem) (n : ℕ) (c : Certificate) : Type 0 where
   pub bound : ℤ
   pub feasible : IsFeasible p c.grouping
@@ -41,6 +43,9 @@ pub record StatesGrouping (p : Problem) (n : ℕ) (c : Certificate) : Type 0 whe
   pub shallow : depth_of c.tree ≤ DEPTH
   pub spent : c.status ≡ Within → (split_count c.tree ≡ n) ⊎ IsDeep p (Least bound) c.tree proves.allowed 0
   pub enough : HasEnough p n → c.status ≡ Optimal
+  pub share : ℕ
+  pub dealt : IsDealt n share
+  pub ascents : AreAboveAscents p share c.tree proves.allowed
 
 -- It is stated that no grouping is feasible, since the first hopeless part has none: the one whose least area this is. The void leaf over it proves that.
 pub record StatesNone (p : Problem) (c : Certificate) : Type 0 where

@@ -7,13 +7,17 @@ use crate::statable::Statable;
 use agg_base::NoMemory;
 use agg_base::limits::SPLITS;
 use agg_model::{Grouping, Problem};
+use bound_rows::Better;
 use branch_bound::{Kind, Outcome, solve};
 use cert_text::{CertStatus, Certificate};
 use primal_dual::PrimalDual;
+use relax_bound::Ascent;
 use std::alloc::Global;
 
 /// The answer to a problem, by a search with at most so many splits: the best grouping that was found, with its cost and the bound that the
 /// tree proves; or that no grouping is feasible, which a void leaf over the first hopeless part proves. Its one refusal is want of memory.
+///
+/// Each leaf of the tree but `Fixed` is worth at least some ascent over its domains with its share of marks.
 ///
 /// A search without splits goes first, since its one leaf may have all marks of a certificate. Where its bound is the cost, it is the answer.
 pub fn search_answer(alloc: Global, problem: &Problem, splits: u32) -> Result<Certificate, NoMemory>
@@ -35,7 +39,8 @@ fn answer_within(alloc: Global, problem: &Problem, splits: u32) -> Result<Certif
     ensures spelling { IfOk result (λ certificate. HasSpelling certificate) }
 {
     let areas = problem.areas();
-    let mut provider = Statable::new(PrimalDual::new());
+    let ascent = Ascent::new(alloc, problem)?;
+    let mut provider = Statable::new(Better::new(ascent, PrimalDual::new()));
     let outcome = solve(alloc, problem, &mut provider, splits)?;
     let Outcome { tree, kind } = outcome;
     match kind {

@@ -1,7 +1,9 @@
 // Offers of sums that a certificate can state.
-ghost use Rattle.std.specs.Prelude.{◌≡◌, ◌+◌, ◌-◌, ◌^◌, min, IfOk, IsTrue};
-ghost use Rattle.bound_rows.specs.Domains.{IsFor};
-ghost use Rattle.search_answer.specs.Offers.{AreStatable};
+ghost use Rattle.std.specs.Prelude.{◌≡◌, ◌↔◌, ◌+◌, ◌-◌, ◌^◌, ℕ, min, IfOk, IsTrue};
+ghost use Rattle.agg_model.specs.Problem.{Problem};
+ghost use Rattle.row_laws.specs.Values.{RowSum, Allowed, IsSoundSum};
+ghost use Rattle.bound_rows.specs.Domains.{allows, IsFor};
+ghost use Rattle.search_answer.specs.Offers.{AreStatable, FitsStatable};
 
 use agg_base::NoMemory;
 use agg_model::Problem;
@@ -26,7 +28,7 @@ impl<P> Statable<P> {
 impl<P: BoundProvider> BoundProvider for Statable<P> {
     ghost asks = { λ statable. P.asks statable.inner };
 
-    ghost fits = { λ statable p allowed share sum. AreStatable sum.rows };
+    ghost fits = { λ statable p allowed share sum. FitsStatable p (P.fits statable.inner p allowed share) sum };
 
     fn offer(
         &mut self,
@@ -38,7 +40,8 @@ impl<P: BoundProvider> BoundProvider for Statable<P> {
     ) -> Result<RowSum, NoMemory>
         requires { IsFor problem.now domains.now }
         ensures asks { P.asks self.new.inner ≡ min (P.asks self.old.inner + 1) (2 ^ 64 - 1) }
-        ensures offer { IfOk result (λ sum. AreStatable sum.rows) }
+        ensures fits { (p : Problem) (allowed : Allowed) (n : ℕ) (s : RowSum) → FitsStatable p (P.fits self.new.inner p allowed n) s ↔ FitsStatable p (P.fits self.old.inner p allowed n) s }
+        ensures offer { IfOk result (λ sum. FitsStatable problem.now (P.fits self.old.inner problem.now (allows domains.now) share) sum) }
     {
         let sum = self.inner.offer(alloc, problem, domains, goal, share)?;
         if are_statable(&sum.rows) {
@@ -55,7 +58,8 @@ impl<P: BoundProvider> BoundProvider for Statable<P> {
 
 // Whether each multiplier is one that a certificate can state.
 fn are_statable(rows: &[(Row, i128)]) -> bool
-    ensures { IsTrue result → AreStatable rows.now }
+    ensures stated { IsTrue result → AreStatable rows.now }
+    ensures unsound { (p : Problem) (sum : RowSum) → sum.rows ≡ rows.now → IsSoundSum p sum → IsTrue result }
 {
     for at in 0..rows.len() {
         let (_, multiplier) = &rows[at];

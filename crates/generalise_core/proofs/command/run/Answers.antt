@@ -17,6 +17,9 @@ returns-then-is_check-clause-bound g c = λ no. absurd (no (c.if-is_check.ensure
 pub returns-then-is_check-clause-optimal : goal.returns-then-is_check-clause-optimal
 returns-then-is_check-clause-optimal g c = λ no. absurd (no (c.if-is_check.ensures.0 refl))
 
+pub returns-then-is_check-clause-ascents : goal.returns-then-is_check-clause-ascents
+returns-then-is_check-clause-ascents g c = λ no. absurd (no (c.if-is_check.ensures.0 refl))
+
 pub returns-then-is_check-clause-union : goal.returns-then-is_check-clause-union
 returns-then-is_check-clause-union g c = λ no. absurd (no (c.if-is_check.ensures.0 refl))
 

@@ -2,7 +2,7 @@
 use Rattle.generalise_core.specs.Orders.{request}
 use Rattle.generalise_core.proofs.DraftLemmas.{few_splits}
 use Rattle.generalise_core.proofs.RunLemmas.{heard_usage}
-use Rattle.generalise_core.proofs.Headlines.{feasible_of, cost_of, bound_of, optimal_of, within_of, spent_of, enough_of, union_of, none_of}
+use Rattle.generalise_core.proofs.Headlines.{feasible_of, cost_of, bound_of, optimal_of, within_of, spent_of, ascents_of, enough_of, union_of, none_of}
 use Rattle.generalise_core.proofs.top.generalise_words.Goals as goal
 
 pub generalise-requires : goal.generalise-requires
@@ -30,6 +30,9 @@ returns-clause-within g c = within_of (g.S.Shelf.state c.args.shelf.now) (g.S.Sh
 
 pub returns-clause-spent : goal.returns-clause-spent
 returns-clause-spent g c = spent_of (g.S.Shelf.state c.args.shelf.now) (g.S.Shelf.state c.generalise.new.shelf) _ _ (returns-clause-stated g c)
+
+pub returns-clause-ascents : goal.returns-clause-ascents
+returns-clause-ascents g c = ascents_of (g.S.Shelf.state c.args.shelf.now) (g.S.Shelf.state c.generalise.new.shelf) _ _ (returns-clause-stated g c)
 
 pub returns-clause-enough : goal.returns-clause-enough
 returns-clause-enough g c = enough_of (g.S.Shelf.state c.args.shelf.now) (g.S.Shelf.state c.generalise.new.shelf) _ _ (returns-clause-stated g c)
