@@ -2,8 +2,8 @@
 """Holds the first grouping against all groupings of tiny maps: start_trials.py PROGRAM RUNS SEED
 
 Each map is a random grid of at most eight patches. The program generalises it with `--splits 0`. The second judge must find the certificate
-valid, and the program must say that no grouping is feasible exactly where none of all is. It prints how many answers cost the least of all
-feasible groupings, and each that costs more, with both costs. It takes no part in any proof.
+valid, the program's `check` must say what that judge says, and the program must say that no grouping is feasible exactly where none of all is.
+It prints how many answers cost the least of all feasible groupings, and each that costs more, with both costs. It takes no part in any proof.
 """
 import itertools
 import os
@@ -72,7 +72,7 @@ def least_cost(model):
 
 
 def run(program, folder, texts):
-    """The exit code, the certificate and the written map."""
+    """The exit code, the certificate, the written map, and what `check` ends with and says of them."""
     names = [os.path.join(folder, name) for name in "mtoc"]
     for name, text in zip(names, texts):
         reference.store(name, text)
@@ -80,7 +80,8 @@ def run(program, folder, texts):
         if os.path.exists(name):
             os.remove(name)
     done = subprocess.run([program, "generalise", "grid"] + names + ["--splits", "0"], capture_output=True, check=False)
-    return done.returncode, reference.bytes_of(names[3]), reference.bytes_of(names[2])
+    checked = subprocess.run([program, "check", "grid"] + names, capture_output=True, check=False)
+    return done.returncode, reference.bytes_of(names[3]), reference.bytes_of(names[2]), (checked.returncode, checked.stdout)
 
 
 def next_map(dice):
@@ -95,17 +96,26 @@ def next_map(dice):
             return texts, model
 
 
+def is_right(texts, due, code, certificate, out, checked):
+    """Whether the second judge says `valid`, `check` says the same, and `none` is said where no grouping is feasible alone."""
+    if certificate is None:
+        return False
+    told = judge.answer(GRID, *texts, certificate, lambda: out)
+    return told[0] == 0 and checked == told and (code == 4) == (due is None)
+
+
 def main():
     program, runs, dice = sys.argv[1], int(sys.argv[2]), random.Random(int(sys.argv[3]))
     none, least, more = 0, 0, []
     with tempfile.TemporaryDirectory() as folder:
         for _ in range(runs):
             texts, model = next_map(dice)
-            code, certificate, out = run(program, folder, texts)
+            code, certificate, out, checked = run(program, folder, texts)
             due = least_cost(model)
-            stated = None if certificate is None or code == 4 else certificates.read(certificate).cost
-            if certificate is None or judge.answer(GRID, *texts, certificate, lambda: out)[0] != 0 or (code == 4) != (due is None):
-                sys.exit(f"map {texts[0]!r}\ntable {texts[1]!r}\ncode {code}\ncertificate {certificate!r}\nleast cost {due}")
+            if not is_right(texts, due, code, certificate, out, checked):
+                told = f"code {code}\ncertificate {certificate!r}\nchecked {checked!r}"
+                sys.exit(f"map {texts[0]!r}\ntable {texts[1]!r}\n{told}\nleast cost {due}")
+            stated = None if code == 4 else certificates.read(certificate).cost
             if due is None:
                 none += 1
             elif stated == due:

@@ -54,7 +54,6 @@ class Flaws(unittest.TestCase):
 
     def test_right_answer(self):
         self.assertIsNone(self.flaw())
-        self.assertIsNone(self.flaw(checked=None))
 
     def test_wrong_answers(self):
         self.assertEqual(self.flaw(code=65), "no answer")
@@ -64,6 +63,7 @@ class Flaws(unittest.TestCase):
         self.assertEqual(self.flaw(due=None), "status")
         self.assertEqual(self.flaw(due=9), "bound or cost")
         self.assertEqual(self.flaw(checked=(0, b"valid within 10 10\n")), "check")
+        self.assertEqual(self.flaw(checked=(64, b"")), "check")
         wrong = RIGHT.replace(b"e 5 0 0 1 0", b"e 4 0 0 1 0")
         self.assertEqual(self.flaw(certificate=wrong), "second judge: invalid Bound 9")
         split = RIGHT.replace(b"c 1 2", b"s 0 0\nf\nc 1 2")
